@@ -1,0 +1,3 @@
+pub mod BigEndian
+pub mod Xor
+pub mod Parts
