@@ -1,0 +1,4 @@
+pub mod BitXor
+pub mod Xor
+pub mod BigEndian
+pub mod Parts

@@ -4,6 +4,6 @@ use mathlib.Core.List.{List, [], _∷_}
 use lib.Bits.{bitXor}
 
 unfoldable pub xors : List ℕ → List ℕ → List ℕ
-xors [] bs = []
-xors (a ∷ as) [] = []
-xors (a ∷ as) (b ∷ bs) = bitXor a b ∷ xors as bs
+xors [] ys = []
+xors (x ∷ xs) [] = []
+xors (x ∷ xs) (y ∷ ys) = bitXor x y ∷ xors xs ys

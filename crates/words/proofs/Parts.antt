@@ -1,0 +1,30 @@
+-- Laws on parts of lists: what a loop that goes through a list from the front needs, and what was put at a place.
+-- Assumes nothing.
+use mathlib.Core.Path.{_≡_, refl, sym, ap, ap₂, _∙_}
+use mathlib.Core.List.{List, [], _∷_, _++_, append-nil, append-assoc}
+use Prim.Native.Nat.{ℕ, zero, suc, _+_, _-_, _<_, _≤_}
+use native.Mathlib.Numerals.{add-one}
+use native.Mathlib.Omega.{arith}
+use lib.Dec.{lit<}
+use lib.ListN.{length, getD, take, drop, set, length-append, length-take, length-drop, drop-of-length-le}
+use lib.Seq.{drop-cons, take-suc-set, append-snoc, take-all, getD-take, getD-drop, drop-set-lt, drop-append-add, take-append-le, take-at, drop-at, length-take-le, take-nil}
+use Rattle.words.specs.Parts.{put, Bytes}
+
+pub drop-next : {A : Type 0} (s : List A) (i : ℕ) (d : A) → i < length s → drop i s ≡ getD s i d ∷ drop (i + 1) s
+drop-next s i d h = rw (add-one, drop-cons s i d)
+
+-- an element stored at the seam of what is done and what is left
+pub store-next : (d rest whole : List ℕ) (i v : ℕ) → i < length d → take i d ++ (v ∷ rest) ≡ whole → take (i + 1) (set d i v) ++ rest ≡ whole
+store-next d rest whole i v h e = rw (add-one, take-suc-set d i v) (append-assoc (take i d) (v ∷ []) rest ∙ e)
+
+pub store-end : (d whole : List ℕ) (i : ℕ) → length d ≤ i → take i d ++ [] ≡ whole → d ≡ whole
+store-end d whole i h e = sym (take-all i d h) ∙ sym (append-nil (take i d)) ∙ e
+
+pub take-bytes : (n : ℕ) (s : List ℕ) → Bytes s → Bytes (take n s)
+take-bytes zero s p i = lit< tt
+take-bytes (suc n) [] p i = lit< tt
+take-bytes (suc n) (x ∷ s) p zero = p 0
+take-bytes (suc n) (x ∷ s) p (suc i) = take-bytes n s (λ j. p (suc j)) i
+
+pub part-bytes : (at n : ℕ) (s : List ℕ) → Bytes s → Bytes (take n (drop at s))
+part-bytes at n s p = take-bytes n (drop at s) (λ i. rw getD-drop (p (at + i)))

@@ -1,0 +1,61 @@
+use mathlib.Core.Path.{_≡_, refl}
+use mathlib.Core.List.{List, _++_}
+use Prim.Native.Nat.{ℕ, _≤_, _<_, _-_}
+use native.Mathlib.Omega.{arith}
+use lib.ListN.{length, take, drop, length-set, drop-of-length-le}
+use Rattle.words.proofs.Parts.{store-next, store-end, drop-next}
+use borrow.Author.Needs.{needs}
+use Rattle.words.proofs.copy.Statement.{statement}
+use Rattle.words.proofs.copy.Tie as tie
+
+copied : (d s : List ℕ) (i : ℕ) → length s ≡ length d → length s ≤ i → take i d ++ drop i s ≡ s → d ≡ s
+copied d s i e h t = store-end d s i (omega arith) (rw (drop-of-length-le s h) at t)
+
+abbrev Inv-loop : tie.InvT-loop
+Inv-loop d₀ s i₀ d i = (length d ≡ length d₀) × (i ≤ length s) × (take i d ++ drop i s ≡ s)
+
+abbrev μ-loop : tie.MeasureT-loop
+μ-loop d₀ s i₀ d i = length s - i
+
+loop-holds : tie.Need-loop-holds Inv-loop μ-loop
+loop-holds c = search needs
+
+shared-slice-read-d : tie.Need-shared-slice-read-d Inv-loop μ-loop
+shared-slice-read-d c = search needs
+
+slice-write-d : tie.Need-slice-write-d Inv-loop μ-loop
+slice-write-d c = search needs
+
+add-i : tie.Need-add-i Inv-loop μ-loop
+add-i c = search needs
+
+loop-less : tie.Need-loop-less Inv-loop μ-loop
+loop-less c = search needs
+
+loop-again : tie.Need-loop-again Inv-loop μ-loop
+loop-again c =
+    let l = c .before .before .loop in
+    let s = c .before .before .before .args .s .now in
+    let h : l .i < length (l .d) = omega arith in
+    (simp length-set (l .inv .0), omega arith, store-next (l .d) _ s (l .i) _ h (rw (drop-next s (l .i) 0 (omega arith)) at (l .inv .2)))
+
+same-length : tie.Need-same-length Inv-loop μ-loop
+same-length c = search needs
+
+returns : tie.Need-returns Inv-loop μ-loop
+returns c = copied _ _ (c .before .loop .i) (omega arith) (c .loop-test .left) (c .before .loop .inv .2)
+
+pub copy-spec : {M : Type 1} → statement M
+copy-spec =
+    tie.close
+    (tie.spec
+    Inv-loop
+    μ-loop
+    loop-holds
+    shared-slice-read-d
+    slice-write-d
+    add-i
+    loop-less
+    loop-again
+    same-length
+    returns)
