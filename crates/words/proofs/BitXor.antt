@@ -1,12 +1,13 @@
 -- The laws of the exclusive or of two numbers that the toolchain's library lacks.
 -- Assumes nothing.
 use mathlib.Core.Path.{_≡_, refl, sym, ap, ap₂, _∙_}
-use Prim.Native.Nat.{ℕ, zero, suc, _+_, _*_, _/_, _%_, _<_}
-use native.Mathlib.Nat.{mod-lt}
+use Prim.Native.Nat.{ℕ, zero, suc, _+_, _*_, _/_, _%_, _^_, _<_}
+use native.Mathlib.Nat.{mod-lt, add-zero}
 use native.Mathlib.Omega.{arith}
 use lib.Arith.{bin-ind, digits-mod}
-use lib.Bits.{bitXor, differ, xor-step, xor-zero-l, xor-zero-r, xor-comm, xor-self, xor-shr}
+use lib.Bits.{bitXor, differ, xor-step, xor-zero-l, xor-zero-r, xor-comm, xor-self, xor-shr, xor-block}
 use lib.Dec.{lit<}
+use lib.Pow.{pow-pos}
 
 -- a digit is 0 or 1
 differ-lt : (a b : ℕ) → a < 2 → b < 2 → differ a b < 2
@@ -55,3 +56,8 @@ xor-swap a b c d =
 
 pub xor-cancel : (a b : ℕ) → bitXor (bitXor a b) b ≡ a
 xor-cancel a b = xor-assoc a b b ∙ ap (bitXor a) (xor-self b) ∙ xor-zero-r a
+
+pub xor-shl : (k a b : ℕ) → bitXor a b * 2 ^ k ≡ bitXor (a * 2 ^ k) (b * 2 ^ k)
+xor-shl k a b =
+    sym (add-zero (bitXor a b * 2 ^ k)) ∙ sym (xor-block k a b 0 0 (pow-pos k) (pow-pos k))
+    ∙ ap₂ bitXor (add-zero (a * 2 ^ k)) (add-zero (b * 2 ^ k))

@@ -1,3 +1,5 @@
+-- `words::copy`: what is copied and what is left make up the source.
+-- Assumes nothing.
 use mathlib.Core.Path.{_≡_, refl}
 use mathlib.Core.List.{List, _++_}
 use Prim.Native.Nat.{ℕ, _≤_, _<_, _-_}

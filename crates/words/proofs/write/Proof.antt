@@ -1,3 +1,5 @@
+-- `words::write`: the bytes still to be written, before those that stand, are the bytes of the whole number.
+-- Assumes nothing.
 use mathlib.Core.Path.{_≡_, refl}
 use mathlib.Core.List.{List, _++_, append-nil}
 use Prim.Native.Nat.{ℕ, zero, suc, _≤_, _<_, _-_}

@@ -1,3 +1,5 @@
+-- `words::xor_into`: what is done, and the exclusive or of what is left, make up the whole.
+-- Assumes nothing.
 use mathlib.Core.Path.{_≡_, refl}
 use mathlib.Core.List.{List, _++_}
 use Prim.Native.Nat.{ℕ, _+_, _≤_, _<_, _-_}

@@ -1,0 +1,5 @@
+pub mod Remainder
+pub mod Division
+pub mod ByTable
+pub mod Laws
+pub mod Vectors

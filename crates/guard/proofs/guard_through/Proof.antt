@@ -1,0 +1,63 @@
+-- `guard::guard_through`: the bytes that are left, from the remainder so far, give what all of them give; a step through a right table is a step of the guard.
+-- Assumes nothing.
+use mathlib.Core.Path.{_≡_, sym, _∙_}
+use Prim.Native.Nat.{_≤_, _<_, _-_, zero-le}
+use native.Mathlib.Omega.{arith}
+use lib.Dec.{lit<}
+use lib.ListN.{length, getD, drop}
+use Rattle.guard.specs.Guard.{guard}
+use Rattle.guard.specs.Remainder.{guardFrom, stepByte}
+use Rattle.guard.proofs.ByTable.{table-step}
+use Rattle.guard.proofs.Division.{guard-from-zero}
+use Rattle.guard.proofs.Remainder.{stepByte-lt, guard-next, guard-end}
+use borrow.Author.Needs.{needs}
+use Rattle.guard.proofs.guard_through.Statement.{statement}
+use Rattle.guard.proofs.guard_through.Tie as tie
+
+abbrev Inv-loop : tie.InvT-loop
+Inv-loop t «data» r₀ i₀ r i = (i ≤ length «data») × (r < 65536) × (guardFrom r (drop i «data») ≡ guard «data»)
+
+abbrev μ-loop : tie.MeasureT-loop
+μ-loop t «data» r₀ i₀ r i = length «data» - i
+
+loop-holds : tie.Need-loop-holds Inv-loop μ-loop
+loop-holds c = (zero-le, lit< tt, sym (guard-from-zero _))
+
+shared-slice-read-table-step : tie.Need-shared-slice-read-table-step Inv-loop μ-loop
+shared-slice-read-table-step c = search needs
+
+table-step-requires : tie.Need-table-step-requires Inv-loop μ-loop
+table-step-requires c κs = search needs
+
+add-i : tie.Need-add-i Inv-loop μ-loop
+add-i c = search needs
+
+loop-less : tie.Need-loop-less Inv-loop μ-loop
+loop-less c = search needs
+
+loop-again : tie.Need-loop-again Inv-loop μ-loop
+loop-again c =
+    let l = c .before .before .before .loop in
+    let s = c .before .before .before .before .before .args .«data» .now in
+    let here : l .i < length s = omega arith in
+    let r : c .table-step .result ≡ stepByte (l .r) (getD s (l .i) 0) =
+    c .table-step .ensures
+    ∙ table-step _ _ _ (c .before .before .before .before .before .pre) (l .inv .1) (c .before .shared-slice-known2 .given (l .i) .fits) in
+    (omega arith, rw r (stepByte-lt (l .r) _), rw r (guard-next s (l .r) (l .i) _ here (l .inv .2)))
+
+returns : tie.Need-returns Inv-loop μ-loop
+returns c = guard-end _ _ (c .before .loop .i) _ (c .loop-test .left) (c .before .loop .inv .2)
+
+pub guard-through-spec : {M : Type 1} → statement M
+guard-through-spec =
+    tie.close
+    (tie.spec
+    Inv-loop
+    μ-loop
+    loop-holds
+    shared-slice-read-table-step
+    table-step-requires
+    add-i
+    loop-less
+    loop-again
+    returns)
