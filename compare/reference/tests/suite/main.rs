@@ -1,0 +1,12 @@
+//! The reference held to the documents.
+
+mod cases;
+mod commands;
+mod descriptions;
+mod fields;
+mod formats;
+mod guards;
+mod listings;
+mod model;
+mod stripes;
+mod support;
