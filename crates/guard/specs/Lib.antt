@@ -1,4 +1,5 @@
 pub mod Guard
 pub mod Remainder
 pub mod Table
+pub mod Guards
 pub mod Vectors

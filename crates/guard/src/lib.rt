@@ -1,7 +1,9 @@
 // The guard of an interval's data, by long division and through a table of 256 numbers.
 ghost use mathlib.Core.Path.{_≡_};
 ghost use Prim.Native.Nat.{_+_, _*_, _<_};
+ghost use lib.ListN.{length};
 ghost use Rattle.guard.specs.Guard.{guard, divide, takeOff, terms};
+ghost use Rattle.guard.specs.Guards.{guards, guardsOf, filled};
 ghost use Rattle.guard.specs.Table.{Right, tableStep};
 
 // The remainder with one term more brought down, and the divisor taken off where it goes in.
@@ -338,4 +340,44 @@ pub fn guard_by_table(data: &[u8]) -> u16
 {
     let t = table();
     guard_through(&t, data)
+}
+
+// Fills `out` with the guards of `count` intervals of `size` bytes, two bytes each.
+fn fill_guards(t: &[u16; 256], data: &[u8], size: usize, count: usize, out: &mut [u8])
+    requires { ⌜ Right (now t) ⌝ }
+    requires { ⌜ count * size ≡ length (now «data») ⌝ }
+    requires { ⌜ count * 2 ≡ length (now out) ⌝ }
+    ensures { λ _. ⌜ now (out .exit) ≡ guardsOf size count (now («data» .entry)) ⌝ }
+{
+    let mut left = count;
+    let mut i: usize = 0;
+    let mut at: usize = 0;
+    while 0 < left {
+        let end = i + size;
+        let g = guard_through(t, &data[i..end]);
+        words::write2(out, at, g);
+        i = end;
+        at += 2;
+        left -= 1;
+    }
+}
+
+// The guards of the intervals of `size` bytes that `data` is made of, two bytes each, big-endian, into `out`.
+// False, and `out` as it was, where `data` is no whole number of intervals or `out` has not two bytes for each.
+pub fn guards(data: &[u8], size: usize, out: &mut [u8]) -> bool
+    ensures { λ r. ⌜ filled r (now (out .exit)) ≡ guards (now («data» .entry)) size (now (out .entry)) ⌝ }
+{
+    if size == 0 {
+        return false;
+    }
+    if data.len() % size != 0 {
+        return false;
+    }
+    let count = data.len() / size;
+    if out.len() != count * 2 {
+        return false;
+    }
+    let t = table();
+    fill_guards(&t, data, size, count, out);
+    true
 }

@@ -12,10 +12,10 @@ use lib.Dec.{lit<}
 use lib.ListN.{length, getD, take, drop, set, length-append, length-set, length-take, length-drop, drop-of-length-le}
 use lib.Seq.{drop-set-lt, getD-set-same, take-set-le, drop-cons}
 use Rattle.words.specs.BigEndian.{numberFrom, number, numberAt, bytes}
-use borrow.Rule.Slice.PartMut.{midOf, putMid, post-is}
+use borrow.Rule.Slice.PartMut.{midOf, putMid}
 use Rattle.words.specs.Parts.{Bytes, put}
 use Rattle.words.specs.Xor.{xors}
-use Rattle.words.proofs.Parts.{drop-next, part-bytes}
+use Rattle.words.proofs.Parts.{drop-next, part-bytes, put-back}
 
 -- ---- reading
 
@@ -104,7 +104,7 @@ read-at-lt at w r s h p e =
     (rw (part-length at w s h) at (number-lt (take (at + w - at) (drop at s)) (part-bytes at (at + w - at) s p)))
 
 pub put-part : (at w n : ℕ) (d new : List ℕ) → at + w ≤ length d → new ≡ bytes (length (midOf at (at + w - at) d)) n → putMid at (at + w - at) d new ≡ put at (bytes w n) d
-unfolding put
 put-part at w n d new h e =
-    let low : at ≤ at + w = omega arith in
-    rw (post-is at (at + w) d low, e, part-length at w d h, bytes-length w n)
+    let made : new ≡ bytes w n = e ∙ ap (λ (k : ℕ). bytes k n) (part-length at w d h) in
+    let long : length (bytes w n) ≡ at + w - at = bytes-length w n ∙ omega arith in
+    rw made (put-back at (at + w) d (bytes w n) (omega arith) long)

@@ -3,3 +3,5 @@ pub mod Xor
 pub mod BigEndian
 pub mod Parts
 pub mod Every
+pub mod Runs
+pub mod Choice

@@ -8,6 +8,7 @@ use native.Mathlib.Omega.{arith}
 use lib.Dec.{lit<}
 use lib.ListN.{length, getD, take, drop, set, length-append, length-take, length-drop, drop-of-length-le}
 use lib.Seq.{drop-cons, take-suc-set, append-snoc, take-all, getD-take, getD-drop, drop-set-lt, drop-append-add, take-append-le, take-at, drop-at, length-take-le, take-nil}
+use borrow.Rule.Slice.PartMut.{putMid, post-is}
 use Rattle.words.specs.Parts.{put, Bytes}
 
 pub drop-next : {A : Type 0} (s : List A) (i : ℕ) (d : A) → i < length s → drop i s ≡ getD s i d ∷ drop (i + 1) s
@@ -28,3 +29,15 @@ take-bytes (suc n) (x ∷ s) p (suc i) = take-bytes n s (λ j. p (suc j)) i
 
 pub part-bytes : (at n : ℕ) (s : List ℕ) → Bytes s → Bytes (take n (drop at s))
 part-bytes at n s p = take-bytes n (drop at s) (λ i. rw getD-drop (p (at + i)))
+
+-- ---- what was put at a place
+pub put-length : (at : ℕ) (new old : List ℕ) → at + length new ≤ length old → length (put at new old) ≡ length old
+unfolding put
+put-length at new old h = simp (length-append, length-take, length-drop) (omega arith)
+
+-- a part that was lent comes back as what was put there
+pub put-back : (at end : ℕ) (old new : List ℕ) → at ≤ end → length new ≡ end - at → putMid at (end - at) old new ≡ put at new old
+unfolding put
+put-back at end old new h e =
+    let where-ends : at + length new ≡ end = omega arith in
+    rw (where-ends, post-is at end old)

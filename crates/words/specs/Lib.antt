@@ -1,3 +1,4 @@
 pub mod BigEndian
 pub mod Xor
 pub mod Parts
+pub mod Runs

@@ -1,0 +1,24 @@
+-- A choice by a test, from the facts that the test stands for.
+-- Assumes nothing.
+use mathlib.Core.Path.{_≡_, refl}
+use mathlib.Core.Bool.{Bool, true, false, _&&_, cond}
+use lib.Dec.{T}
+
+pub and-true : (a b : Bool) → T a → T b → T (a && b)
+and-true true b p q = q
+and-true false b p q = p
+
+pub and-left : (a b : Bool) → T (a && b) → T a
+and-left true b t = tt
+and-left false b t = t
+
+pub and-right : (a b : Bool) → T (a && b) → T b
+and-right true b t = t
+and-right false b t = absurd t
+
+module _ {A : Type 0} (b : Bool) (x y : A) where
+  pub chosen : T b → cond b x y ≡ x
+  chosen = elim b as (λ c. T c → cond c x y ≡ x) [ true ↦ λ t. refl | false ↦ λ t. absurd t ]
+
+  pub not-chosen : (T b → ⊥) → cond b x y ≡ y
+  not-chosen = elim b as (λ c. (T c → ⊥) → cond c x y ≡ y) [ true ↦ λ n. absurd (n tt) | false ↦ λ n. refl ]
