@@ -64,9 +64,9 @@ pub fn run(options: &Options, out: Output<'_>) -> io::Result<Verdict> {
 }
 
 /// Puts the guards of the data's intervals of a size into a list of bytes.
-type Pass = fn(&[u8], usize, &mut [u8]);
+type Guards = fn(&[u8], usize, &mut [u8]);
 
-fn case(data: &[u8], size: usize, limit: Option<f64>, ours: Pass, rust: Pass) -> Case<'_> {
+fn case(data: &[u8], size: usize, limit: Option<f64>, ours: Guards, rust: Guards) -> Case<'_> {
     let count = data.len() / size;
     Case {
         bytes: size,

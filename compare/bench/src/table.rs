@@ -6,8 +6,11 @@ use std::time::{Duration, Instant};
 /// Where tables are printed.
 pub type Output<'a> = &'a mut dyn Write;
 
+/// Does some work and fills a list of bytes with its results.
+pub type Pass<'a> = Box<dyn FnMut(&mut [u8]) + 'a>;
+
 /// One line of a table: a pass done by the archive and the same pass done by the
-/// reference. Each fills a list of bytes with its results.
+/// reference.
 pub struct Case<'a> {
     /// The size that names the line.
     pub bytes: usize,
@@ -17,8 +20,8 @@ pub struct Case<'a> {
     pub results: usize,
     /// The greatest ratio ours/Rust that is wanted.
     pub limit: Option<f64>,
-    pub ours: Box<dyn FnMut(&mut [u8]) + 'a>,
-    pub rust: Box<dyn FnMut(&mut [u8]) + 'a>,
+    pub ours: Pass<'a>,
+    pub rust: Pass<'a>,
 }
 
 /// What a table found.
@@ -67,8 +70,7 @@ pub fn measure(
     for round in 0..rounds {
         for (case, best) in cases.iter_mut().zip(&mut bests) {
             let (ours, rust) = (&mut ours[..case.results], &mut rust[..case.results]);
-            // Of what one way leaves unwritten, nothing looks like a result of the
-            // other's.
+            // Different from each other, so that what both leave unwritten shows too.
             ours.fill(0x55);
             rust.fill(0xAA);
             // Each way goes first in every other round.
