@@ -1,0 +1,63 @@
+// Moving bytes block by block. Only here does a lent byte change.
+ghost use mathlib.Core.Path.{_≡_};
+ghost use Prim.Native.Nat.{_+_, _*_, _≤_};
+ghost use lib.ListN.{length};
+ghost use Rattle.words.specs.Parts.{put};
+ghost use Rattle.guard.specs.Table.{Right};
+ghost use Rattle.blocks.specs.Blocks.{stripped, withField, storedBlock, storedBlocks};
+
+// What goes into the fields beside the guard: the application tag, the reference tag of the next interval, and by how much
+// it goes on.
+pub struct Marks {
+    pub application: u16,
+    pub reference: u32,
+    pub step: u32,
+}
+
+// Fills `d` with the user data of `count` stored intervals of `size` data bytes.
+pub fn strip(d: &mut [u8], s: &[u8], size: usize, count: usize)
+    requires { ⌜ count * (size + 8) ≡ length (now s) ⌝ }
+    requires { ⌜ count * size ≡ length (now d) ⌝ }
+    ensures { λ _. ⌜ now (d .exit) ≡ stripped size count (now (s .entry)) ⌝ }
+{
+    // a loop: words::copy(&mut d[a..b], &s[i..m])
+}
+
+// Fills `d`, a stored interval, from its data `s`.
+fn insert_interval(t: &[u16; 256], d: &mut [u8], s: &[u8], m: Marks)
+    requires { ⌜ Right (now t) ⌝ }
+    requires { ⌜ length (now s) + 8 ≡ length (now d) ⌝ }
+    ensures { λ _. ⌜ now (d .exit) ≡ withField (length (now (s .entry))) m (now (s .entry)) ⌝ }
+{
+    // copy the data, then write2 guard, write2 application, write4 reference at length s, + 2, + 4
+}
+
+// Fills `d`, a stored block, from its user data `s`.
+pub fn insert_block(t: &[u16; 256], d: &mut [u8], s: &[u8], size: usize, intervals: usize, m: Marks)
+    requires { ⌜ Right (now t) ⌝ }
+    requires { ⌜ intervals * size ≡ length (now s) ⌝ }
+    requires { ⌜ intervals * (size + 8) ≡ length (now d) ⌝ }
+    ensures { λ _. ⌜ now (d .exit) ≡ storedBlock size intervals m (now (s .entry)) ⌝ }
+{
+    // a loop: insert_interval(t, &mut d[a..b], &s[i..j], here)
+}
+
+// Overwrites `count` blocks of the segment, from `at` on, with stored blocks made of the user data in `s`. The middle of the segment is handed on
+// block by block.
+pub fn insert_blocks(t: &[u16; 256], segment: &mut [u8], at: usize, s: &[u8], size: usize, intervals: usize, count: usize, m: Marks)
+    requires { ⌜ Right (now t) ⌝ }
+    requires { ⌜ count * (intervals * size) ≡ length (now s) ⌝ }
+    requires { ⌜ at + count * (intervals * (size + 8)) ≤ length (now segment) ⌝ }
+    ensures { λ _. ⌜ now (segment .exit) ≡ put at (storedBlocks size intervals count m (now (s .entry))) (now (segment .entry)) ⌝ }
+{
+    // a loop over blocks: insert_block(t, &mut segment[a..e], &s[i..j], size, intervals, here)
+}
+
+// Overwrites `count` blocks of `stored` bytes of the segment, from `at` on, with those in `s`, block by block.
+pub fn store_blocks(segment: &mut [u8], at: usize, s: &[u8], stored: usize, count: usize)
+    requires { ⌜ count * stored ≡ length (now s) ⌝ }
+    requires { ⌜ at + count * stored ≤ length (now segment) ⌝ }
+    ensures { λ _. ⌜ now (segment .exit) ≡ put at (now (s .entry)) (now (segment .entry)) ⌝ }
+{
+    // a loop: words::copy(&mut segment[a..e], &s[i..j])
+}

@@ -1,0 +1,94 @@
+-- "Commands": from a command's bytes to what it asks, or the refusal.
+use Prim.Native.Nat.{ℕ, _+_, _/_, _%_}
+use mathlib.Core.Bool.{Bool, true, false, not, _&&_, cond}
+use mathlib.Core.List.{List, [], _∷_}
+use lib.Dec.{eqb, ltb}
+use lib.ListN.{length, getD}
+use Rattle.words.specs.BigEndian.{numberAt}
+use Rattle.answer.specs.declared.Answer.{Answer}
+use Rattle.answer.specs.declared.Answer.the-variants as answers
+use Rattle.command.specs.declared.Operation.{Operation}
+use Rattle.command.specs.declared.Operation.the-variants.{Read, Write, Verify}
+use Rattle.command.specs.declared.Form.{Form}
+use Rattle.command.specs.declared.Form.the-variants.{Ten, Twelve, Sixteen, ThirtyTwo}
+use Rattle.command.specs.declared.Named.{Named}
+use Rattle.command.specs.declared.Named.the-variants.{Known, Unknown}
+use Rattle.command.specs.declared.Layout.{Layout}
+use Rattle.command.specs.declared.Command.{Command}
+use Rattle.command.specs.declared.Decoded.{Decoded}
+use Rattle.command.specs.declared.Decoded.the-variants.{Served, Refused}
+
+-- The table's operations: byte 0 of the three shorter forms, the service action of the longest.
+pub record Row : Type 0 where
+  pub value : ℕ
+  pub operation : Operation
+  pub form : Form
+
+abbrev row : ℕ → Operation → Form → Row
+row v o f = record { value = v; operation = o; form = f }
+
+abbrev pub byteZero : List Row
+byteZero =
+    row 0x28 Read Ten ∷ row 0x2A Write Ten ∷ row 0x2F Verify Ten
+    ∷ row 0xA8 Read Twelve ∷ row 0xAA Write Twelve ∷ row 0xAF Verify Twelve
+    ∷ row 0x88 Read Sixteen ∷ row 0x8A Write Sixteen ∷ row 0x8F Verify Sixteen
+    ∷ []
+
+abbrev pub serviceAction : List Row
+serviceAction = row 0x0009 Read ThirtyTwo ∷ row 0x000B Write ThirtyTwo ∷ row 0x000A Verify ThirtyTwo ∷ []
+
+-- the row of a value, or "not served 5"
+abbrev pub find : ℕ → List Row → Named
+find v [] = Unknown answers.Operation
+find v (r ∷ rs) = cond (eqb v (r .value)) (Known (r .operation) (r .form)) (find v rs)
+
+-- "empty command 3; byte 0 not served 5; for 7Fh, fewer than 10 bytes 3, service action not served 5"
+unfoldable pub recognise : List ℕ → Named
+recognise c =
+    cond (eqb (length c) 0) (Unknown answers.CommandLength)
+    (cond (eqb (getD c 0 0) 0x7F)
+    (cond (ltb (length c) 10) (Unknown answers.CommandLength) (find (numberAt 8 2 c) serviceAction))
+    (find (getD c 0 0) byteZero))
+
+-- The table's columns: bytes, where the address and the length stand and how many bytes each has, the protect byte.
+abbrev pub layoutOf : Form → Layout
+layoutOf Ten = record { bytes = 10; address = 2; addressed = 4; length = 7; lengthened = 2; protect = 1 }
+layoutOf Twelve = record { bytes = 12; address = 2; addressed = 4; length = 6; lengthened = 4; protect = 1 }
+layoutOf Sixteen = record { bytes = 16; address = 2; addressed = 8; length = 10; lengthened = 4; protect = 1 }
+layoutOf ThirtyTwo = record { bytes = 32; address = 12; addressed = 8; length = 28; lengthened = 4; protect = 10 }
+
+abbrev pub isLong : Form → Bool
+isLong Ten = false
+isLong Twelve = false
+isLong Sixteen = false
+isLong ThirtyTwo = true
+
+-- "expected first reference tag in 20-23, expected application tag in 24-25, application mask in 26-27" of the 32-byte
+-- form; protect code in bits 7-5 of the protect byte, byte-check in bits 2-1
+unfoldable pub fields : Operation → Form → List ℕ → Command
+fields o f c =
+    let l = layoutOf f in
+    record {
+      operation = o;
+      long = isLong f;
+      code = getD c (l .protect) 0 / 32;
+      check = getD c (l .protect) 0 / 2 % 4;
+      address = numberAt (l .address) (l .addressed) c;
+      length = numberAt (l .length) (l .lengthened) c;
+      tag = cond (isLong f) (numberAt 20 4 c) 0;
+      application = cond (isLong f) (numberAt 24 2 c) 0;
+      mask = cond (isLong f) (numberAt 26 2 c) 0
+    }
+
+-- "length not the command's 3; byte 7 not 18h 6"
+unfoldable pub decodeAs : Operation → Form → List ℕ → Decoded
+decodeAs o f c =
+    cond (not (eqb (length c) (layoutOf f .bytes))) (Refused answers.CommandLength)
+    (cond (isLong f && not (eqb (getD c 7 0) 0x18)) (Refused answers.Field) (Served (fields o f c)))
+
+abbrev decodeNamed : Named → List ℕ → Decoded
+decodeNamed (Known o f) c = decodeAs o f c
+decodeNamed (Unknown a) c = Refused a
+
+unfoldable pub decode : List ℕ → Decoded
+decode c = decodeNamed (recognise c) c

@@ -1,0 +1,123 @@
+// A command's bytes to what it asks, by value, or the refusal.
+ghost use mathlib.Core.Path.{_≡_};
+ghost use Prim.Native.Nat.{_≤_};
+ghost use lib.ListN.{length};
+ghost use Rattle.command.specs.Command.{recognise, layoutOf, fields, decodeAs, decode};
+
+use answer::Answer;
+
+pub enum Operation {
+    Read,
+    Write,
+    Verify,
+}
+
+// The four sizes of a command.
+pub enum Form {
+    Ten,
+    Twelve,
+    Sixteen,
+    ThirtyTwo,
+}
+
+pub enum Named {
+    Known(Operation, Form),
+    Unknown(Answer),
+}
+
+// Where the fields of a form stand: its bytes, the address and the bytes it has, the length and the bytes it has, the
+// protect byte.
+pub struct Layout {
+    pub bytes: usize,
+    pub address: usize,
+    pub addressed: usize,
+    pub length: usize,
+    pub lengthened: usize,
+    pub protect: usize,
+}
+
+// What a command asks. The tags and the mask are those of a 32-byte command, which is `long`; 0 in others.
+pub struct Command {
+    pub operation: Operation,
+    pub long: bool,
+    pub code: u8,
+    pub check: u8,
+    pub address: u64,
+    pub length: u64,
+    pub tag: u32,
+    pub application: u16,
+    pub mask: u16,
+}
+
+pub enum Decoded {
+    Served(Command),
+    Refused(Answer),
+}
+
+// The operation and the form that byte 0, or the service action, names.
+fn recognised(c: &[u8]) -> Named
+    ensures { λ r. ⌜ r ≡ recognise (now (c .entry)) ⌝ }
+{
+    if c.len() == 0 {
+        return Named::Unknown(Answer::CommandLength);
+    }
+    let first = c[0];
+    match first {
+        0x28 => Named::Known(Operation::Read, Form::Ten),
+        0x2A => Named::Known(Operation::Write, Form::Ten),
+        0x2F => Named::Known(Operation::Verify, Form::Ten),
+        0xA8 => Named::Known(Operation::Read, Form::Twelve),
+        0xAA => Named::Known(Operation::Write, Form::Twelve),
+        0xAF => Named::Known(Operation::Verify, Form::Twelve),
+        0x88 => Named::Known(Operation::Read, Form::Sixteen),
+        0x8A => Named::Known(Operation::Write, Form::Sixteen),
+        0x8F => Named::Known(Operation::Verify, Form::Sixteen),
+        0x7F => {
+            if c.len() < 10 {
+                return Named::Unknown(Answer::CommandLength);
+            }
+            let action = words::read2(c, 8);
+            match action {
+                0x0009 => Named::Known(Operation::Read, Form::ThirtyTwo),
+                0x000B => Named::Known(Operation::Write, Form::ThirtyTwo),
+                0x000A => Named::Known(Operation::Verify, Form::ThirtyTwo),
+                _ => Named::Unknown(Answer::Operation),
+            }
+        }
+        _ => Named::Unknown(Answer::Operation),
+    }
+}
+
+fn laid_out(f: Form) -> Layout
+    ensures { λ r. ⌜ r ≡ layoutOf f ⌝ }
+{
+    match f {
+        Form::Ten => Layout { bytes: 10, address: 2, addressed: 4, length: 7, lengthened: 2, protect: 1 },
+        Form::Twelve => Layout { bytes: 12, address: 2, addressed: 4, length: 6, lengthened: 4, protect: 1 },
+        Form::Sixteen => Layout { bytes: 16, address: 2, addressed: 8, length: 10, lengthened: 4, protect: 1 },
+        Form::ThirtyTwo => Layout { bytes: 32, address: 12, addressed: 8, length: 28, lengthened: 4, protect: 10 },
+    }
+}
+
+// What the command asks, of bytes that are as many as its form has.
+fn parsed(o: Operation, f: Form, c: &[u8]) -> Command
+    requires { ⌜ length (now c) ≡ layoutOf f .bytes ⌝ }
+    ensures { λ r. ⌜ r ≡ fields o f (now (c .entry)) ⌝ }
+{
+    let l = laid_out(f);
+    // ..
+}
+
+// A command of a known operation and form.
+fn decoded_as(o: Operation, f: Form, c: &[u8]) -> Decoded
+    ensures { λ r. ⌜ r ≡ decodeAs o f (now (c .entry)) ⌝ }
+{
+    // ..
+}
+
+// What a command's bytes ask, or the refusal: any bytes, from none on.
+pub fn decoded(c: &[u8]) -> Decoded
+    ensures { λ r. ⌜ r ≡ decode (now (c .entry)) ⌝ }
+{
+    // ..
+}
