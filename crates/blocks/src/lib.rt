@@ -44,7 +44,16 @@ pub fn insert_block(t: &[u16; 256], d: &mut [u8], s: &[u8], size: usize, interva
 
 // Overwrites `count` blocks of the segment, from `at` on, with stored blocks made of the user data in `s`. The middle of the segment is handed on
 // block by block.
-pub fn insert_blocks(t: &[u16; 256], segment: &mut [u8], at: usize, s: &[u8], size: usize, intervals: usize, count: usize, m: Marks)
+pub fn insert_blocks(
+    t: &[u16; 256],
+    segment: &mut [u8],
+    at: usize,
+    s: &[u8],
+    size: usize,
+    intervals: usize,
+    count: usize,
+    m: Marks,
+)
     requires { ⌜ Right (now t) ⌝ }
     requires { ⌜ count * (intervals * size) ≡ length (now s) ⌝ }
     requires { ⌜ at + count * (intervals * (size + 8)) ≤ length (now segment) ⌝ }

@@ -77,7 +77,7 @@ fields o f c =
       length = numberAt (l .length) (l .lengthened) c;
       tag = cond (isLong f) (numberAt 20 4 c) 0;
       application = cond (isLong f) (numberAt 24 2 c) 0;
-      mask = cond (isLong f) (numberAt 26 2 c) 0
+      mask = cond (isLong f) (numberAt 26 2 c) 0;
     }
 
 -- "length not the command's 3; byte 7 not 18h 6"

@@ -3,7 +3,6 @@ ghost use mathlib.Core.Path.{_≡_};
 ghost use Prim.Native.Nat.{_≤_};
 ghost use lib.ListN.{length};
 ghost use Rattle.command.specs.Command.{recognise, layoutOf, fields, decodeAs, decode};
-
 use answer::Answer;
 
 pub enum Operation {
@@ -92,10 +91,38 @@ fn laid_out(f: Form) -> Layout
     ensures { λ r. ⌜ r ≡ layoutOf f ⌝ }
 {
     match f {
-        Form::Ten => Layout { bytes: 10, address: 2, addressed: 4, length: 7, lengthened: 2, protect: 1 },
-        Form::Twelve => Layout { bytes: 12, address: 2, addressed: 4, length: 6, lengthened: 4, protect: 1 },
-        Form::Sixteen => Layout { bytes: 16, address: 2, addressed: 8, length: 10, lengthened: 4, protect: 1 },
-        Form::ThirtyTwo => Layout { bytes: 32, address: 12, addressed: 8, length: 28, lengthened: 4, protect: 10 },
+        Form::Ten => Layout {
+            bytes: 10,
+            address: 2,
+            addressed: 4,
+            length: 7,
+            lengthened: 2,
+            protect: 1,
+        },
+        Form::Twelve => Layout {
+            bytes: 12,
+            address: 2,
+            addressed: 4,
+            length: 6,
+            lengthened: 4,
+            protect: 1,
+        },
+        Form::Sixteen => Layout {
+            bytes: 16,
+            address: 2,
+            addressed: 8,
+            length: 10,
+            lengthened: 4,
+            protect: 1,
+        },
+        Form::ThirtyTwo => Layout {
+            bytes: 32,
+            address: 12,
+            addressed: 8,
+            length: 28,
+            lengthened: 4,
+            protect: 10,
+        },
     }
 }
 

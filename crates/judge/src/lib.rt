@@ -4,7 +4,6 @@ ghost use Prim.Native.Nat.{_+_, _*_, _≤_, _<_, _^_};
 ghost use lib.ListN.{length};
 ghost use Rattle.guard.specs.Table.{Right};
 ghost use Rattle.judge.specs.Judge.{escapes, anyEscapes, judgePieces, judgeIntervals, judgeBlock, judgeBlocks, nextInterval, nextBlock, Run};
-
 use answer::Answer;
 
 // What lifts all checks from a block: nothing, an application tag FFFFh, or that with a reference tag FFFFFFFFh.

@@ -20,6 +20,15 @@ fn read(s: &[u8]) -> u64
     n
 }
 
+// The number in the `width` bytes of `s` from `at` on.
+pub fn read_at(s: &[u8], at: usize, width: usize) -> u64
+    requires { ⌜ (width ≤ 8) × (at + width ≤ length (now s)) ⌝ }
+    ensures { λ r. ⌜ r ≡ numberAt at width (now (s .entry)) ⌝ }
+{
+    let end = at + width;
+    read(&s[at..end])
+}
+
 // The number in the two, four or eight bytes of `s` from `at` on.
 pub fn read2(s: &[u8], at: usize) -> u16
     requires { ⌜ at + 2 ≤ length (now s) ⌝ }
