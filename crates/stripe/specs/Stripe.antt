@@ -1,0 +1,70 @@
+-- "k is 1 to 16 members, laid end to end, each N × S bytes of one description of type 1 to 3. Parity is their exclusive or,
+-- fields included."
+use Prim.Native.Nat.{ℕ, zero, suc, _+_, _-_, _*_}
+use mathlib.Core.Bool.{Bool, not, _&&_, cond}
+use mathlib.Core.List.{List}
+use lib.Dec.{eqb, leb}
+use lib.ListN.{length, take, drop, replicate}
+use Rattle.words.specs.Xor.{xors}
+use Rattle.answer.specs.declared.Answer.{Answer}
+use Rattle.answer.specs.declared.Answer.the-variants as answers
+use Rattle.segment.specs.declared.Description.{Description}
+use Rattle.segment.specs.Segment.{isSegment, lengthOf}
+
+-- part j of parts of `long` bytes, laid end to end
+unfoldable pub part : ℕ → ℕ → List ℕ → List ℕ
+part long j s = take long (drop (j * long) s)
+
+-- the exclusive or of k parts of `long` bytes with what stands already
+unfoldable pub xorParts : ℕ → ℕ → List ℕ → List ℕ → List ℕ
+xorParts long zero out s = out
+xorParts long (suc k) out s = xorParts long k (xors out (take long s)) (drop long s)
+
+-- "Parity is their exclusive or"
+unfoldable pub parityOf : ℕ → ℕ → List ℕ → List ℕ
+parityOf long k s = xorParts long k (replicate long 0) s
+
+-- "Rebuilding takes k + 1 parts, parity last, and the number of the lost one (0 to k; its own bytes are not used)": the
+-- exclusive or of those before it and those after it
+unfoldable pub rebuiltOf : ℕ → ℕ → ℕ → List ℕ → List ℕ
+rebuiltOf long k lost s = xorParts long (k - lost) (parityOf long lost s) (drop ((lost + 1) * long) s)
+
+-- "Correcting takes one member's old and new bytes and changes the parity lent with them"
+unfoldable pub correctedOf : List ℕ → List ℕ → List ℕ → List ℕ
+correctedOf old new parity = xors (xors parity old) new
+
+pub record Striped : Type 0 where
+  pub answer : Answer
+  pub lent : List ℕ
+
+abbrev pub striped : Answer → List ℕ → Striped
+striped a l = record { answer = a; lent = l }
+
+-- "Answers 0, 1, then 11 for type 0, k out of range, a lost number above k, or any length unfit."
+unfoldable pub stripedOf : Description → Bool → List ℕ → List ℕ → Striped
+stripedOf d shaped old new =
+    cond (not (isSegment d)) (striped answers.Description old)
+    (cond (not (eqb (d .kind) 0) && shaped) (striped answers.Good new) (striped answers.Stripe old))
+
+unfoldable pub members : ℕ → Bool
+members k = leb 1 k && leb k 16
+
+-- "Making parity and rebuilding write one lent buffer of N × S bytes."
+unfoldable pub madeOf : Description → ℕ → List ℕ → List ℕ → Striped
+madeOf d k s out =
+    stripedOf d (members k && (eqb (length s) (k * lengthOf d) && eqb (length out) (lengthOf d))) out (parityOf (lengthOf d) k s)
+
+unfoldable pub restoredOf : Description → ℕ → ℕ → List ℕ → List ℕ → Striped
+restoredOf d k lost s out =
+    stripedOf d
+    (members k && (leb lost k && (eqb (length s) ((k + 1) * lengthOf d) && eqb (length out) (lengthOf d))))
+    out
+    (rebuiltOf (lengthOf d) k lost s)
+
+-- "N × S bytes each"
+unfoldable pub mendedOf : Description → List ℕ → List ℕ → List ℕ → Striped
+mendedOf d old new parity =
+    stripedOf d
+    (eqb (length old) (lengthOf d) && (eqb (length new) (lengthOf d) && eqb (length parity) (lengthOf d)))
+    parity
+    (correctedOf old new parity)
