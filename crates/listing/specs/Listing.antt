@@ -2,6 +2,7 @@
 use Prim.Native.Nat.{ℕ, zero, suc, _+_, _*_}
 use mathlib.Core.Bool.{Bool, true, false, _||_, cond}
 use mathlib.Core.List.{List, [], _∷_, _++_}
+use mathlib.Core.Path.{_≡_}
 use lib.Dec.{eqb}
 use lib.ListN.{length, take, drop}
 use Rattle.answer.specs.Answer.{numberOf, isGood}
@@ -164,10 +165,12 @@ unfoldable pub listing : List ℕ → List ℕ
 listing input =
     cond (isGood (recordAnswer input)) (listedText (describedBy input) (segmentIn input)) (refusedText (recordAnswer input))
 
--- what a lent buffer holds when text was written to it from a place on: as much of the text as there is room for
+-- what a lent buffer holds after text was written to it from a place on: of the text, as much as there is room for
 unfoldable pub laid : ℕ → List ℕ → List ℕ → List ℕ
-laid at [] out = out
-laid at (b ∷ bs) out = laid (at + 1) bs (take at out ++ put1 at b out)
-  where
-    put1 : ℕ → ℕ → List ℕ → List ℕ
-    put1 at b out = ?
+laid at text out = take (length out) (take at out ++ (text ++ drop (at + length text) out))
+
+-- what is answered, and what the lent buffer then holds: the number of bytes of the whole listing, and of these as many as the
+-- buffer has room for; what lies behind them stays
+pub record Listed (input out : List ℕ) (r : ℕ) (left : List ℕ) : Type 0 where
+  pub count : r ≡ length (listing input)
+  pub text : left ≡ laid 0 (listing input) out
