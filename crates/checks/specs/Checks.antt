@@ -55,7 +55,7 @@ rulesOf d c =
       reference = columnsOf (c .code) .reference && referenceKnown d c;
       expected = c .application;
       mask = c .mask;
-      escape = escapeOf (c .operation) (d .kind)
+      escape = escapeOf (c .operation) (d .kind);
     }
 
 -- where judging starts: "the block's address and the interval's place in the transfer, from 0"

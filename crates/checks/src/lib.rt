@@ -4,7 +4,6 @@ ghost use mathlib.Core.Path.{_≡_};
 ghost use Rattle.segment.specs.Segment.{Segment};
 ghost use Rattle.checks.specs.Checks.{columnsOf, applicationKnown, referenceKnown, firstTag, escapeOf, rulesOf, startOf};
 ghost use Rattle.checks.specs.Inserted.{insertedApplication, insertedReference, marksOf};
-
 use blocks::Marks;
 use command::Command;
 use command::Operation;
@@ -24,21 +23,33 @@ fn chosen(code: u8) -> Columns
     ensures { λ r. ⌜ r ≡ columnsOf code ⌝ }
 {
     match code {
-        0b000 | 0b001 | 0b101 => Columns { guard: true, application: true, reference: true },
-        0b010 => Columns { guard: false, application: true, reference: true },
-        0b100 => Columns { guard: true, application: false, reference: false },
-        _ => Columns { guard: false, application: false, reference: false },
+        0b000 | 0b001 | 0b101 => Columns {
+            guard: true,
+            application: true,
+            reference: true,
+        },
+        0b010 => Columns {
+            guard: false,
+            application: true,
+            reference: true,
+        },
+        0b100 => Columns {
+            guard: true,
+            application: false,
+            reference: false,
+        },
+        _ => Columns {
+            guard: false,
+            application: false,
+            reference: false,
+        },
     }
 }
 
 fn application_known(d: Description, c: Command) -> bool
     ensures { λ r. ⌜ r ≡ applicationKnown d c ⌝ }
 {
-    if c.long {
-        d.ato == 1
-    } else {
-        false
-    }
+    if c.long { d.ato == 1 } else { false }
 }
 
 fn reference_known(d: Description, c: Command) -> bool
@@ -86,8 +97,16 @@ pub fn rules(d: Description, c: Command) -> Rules
 {
     let columns = chosen(c.code);
     let o = c.operation;
-    let application = if columns.application { application_known(d, c) } else { false };
-    let reference = if columns.reference { reference_known(d, c) } else { false };
+    let application = if columns.application {
+        application_known(d, c)
+    } else {
+        false
+    };
+    let reference = if columns.reference {
+        reference_known(d, c)
+    } else {
+        false
+    };
     Rules {
         intervals: segment::intervals(d),
         size: segment::size(d),
@@ -147,7 +166,15 @@ pub fn marks(d: Description, c: Command) -> Marks
     let application = inserted_application(d, c);
     let reference = inserted_reference(d, c);
     if d.kind == 3 {
-        return Marks { application: application, reference: reference, step: 0 };
+        return Marks {
+            application: application,
+            reference: reference,
+            step: 0,
+        };
     }
-    Marks { application: application, reference: reference, step: 1 }
+    Marks {
+        application: application,
+        reference: reference,
+        step: 1,
+    }
 }

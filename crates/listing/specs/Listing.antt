@@ -42,7 +42,7 @@ readAll d =
       length = d .count;
       tag = 0;
       application = 0;
-      mask = 0
+      mask = 0;
     }
 
 -- what judging says of an interval, as a word of the listing
@@ -75,7 +75,7 @@ lineOf r skipped i p s =
       guard = storedGuard (fieldOf (r .size) s);
       application = storedApplication (fieldOf (r .size) s);
       reference = storedReference (fieldOf (r .size) s);
-      state = stateOf r skipped p s
+      state = stateOf r skipped p s;
     }
 
 -- the lines of k intervals of a block, from interval i on

@@ -27,7 +27,7 @@ describedBy input =
       exponent = getD input 6 0;
       first = numberAt 9 8 input;
       count = numberAt 17 2 input;
-      ato = 0
+      ato = 0;
     }
 
 unfoldable pub segmentIn : List ℕ → List ℕ

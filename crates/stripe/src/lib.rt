@@ -3,7 +3,6 @@ ghost use mathlib.Core.Path.{_≡_};
 ghost use Prim.Native.Nat.{_*_};
 ghost use lib.ListN.{length};
 ghost use Rattle.stripe.specs.Stripe.{xorParts, striped, madeOf, restoredOf, mendedOf};
-
 use answer::Answer;
 use segment::Description;
 

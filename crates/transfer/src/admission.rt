@@ -3,14 +3,12 @@ ghost use mathlib.Core.Path.{_≡_};
 ghost use Prim.Native.Nat.{_≤_};
 ghost use Rattle.segment.specs.Segment.{Segment};
 ghost use Rattle.transfer.specs.Admission.{typeRules, codeRule, checkRule, rangeRule, movedOf, sizeRule, bufferOf, bufferRule, refusal, admitCommand, admitted};
-
+use crate::Admitted;
 use answer::Answer;
 use command::Command;
 use command::Decoded;
 use command::Operation;
 use segment::Description;
-
-use crate::Admitted;
 
 fn type_rules(d: Description, c: Command) -> Answer
     ensures { λ r. ⌜ r ≡ typeRules d c ⌝ }

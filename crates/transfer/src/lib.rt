@@ -4,7 +4,6 @@ mod moving;
 
 ghost use mathlib.Core.Path.{_≡_};
 ghost use Rattle.transfer.specs.Transfer.{outcome, executed};
-
 use answer::Answer;
 use command::Command;
 use segment::Description;
