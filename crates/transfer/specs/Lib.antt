@@ -1,3 +1,1 @@
-pub mod Admission
-pub mod Ready
 pub mod Transfer

@@ -17,9 +17,9 @@ use Rattle.judge.specs.Judge.{judgeBlocks}
 use Rattle.blocks.specs.Blocks.{stripped, storedBlocks}
 use Rattle.checks.specs.Checks.{rulesOf, startOf}
 use Rattle.checks.specs.Inserted.{marksOf}
-use Rattle.transfer.specs.declared.Admitted.{Admitted}
-use Rattle.transfer.specs.declared.Admitted.the-variants.{Refused, Go}
-use Rattle.transfer.specs.Admission.{admitted}
+use Rattle.admission.specs.declared.Admitted.{Admitted}
+use Rattle.admission.specs.declared.Admitted.the-variants.{Refused, Go}
+use Rattle.admission.specs.Admission.{admitted}
 
 pub record Outcome : Type 0 where
   pub answer : Answer

@@ -2,8 +2,12 @@
 ghost use mathlib.Core.Path.{_≡_};
 ghost use Prim.Native.Nat.{_≤_};
 ghost use Rattle.segment.specs.Segment.{Segment};
-ghost use Rattle.transfer.specs.Admission.{typeRules, codeRule, checkRule, rangeRule, movedOf, sizeRule, bufferOf, bufferRule, refusal, admitCommand, admitted};
-use crate::Admitted;
+ghost use Rattle.admission.specs.Admission.{typeRules, codeRule, checkRule, rangeRule, movedOf, sizeRule, bufferOf, bufferRule, refusal, admitCommand, admitted};
+// What admission decides: the refusal, or the command that goes on.
+pub enum Admitted {
+    Refused(Answer),
+    Go(Command),
+}
 use answer::Answer;
 use command::Command;
 use command::Decoded;
@@ -163,7 +167,7 @@ fn admit_command(d: Description, c: Command, buffer: usize) -> Admitted
 }
 
 // All that is decided before a byte of the segment or the buffer is looked at.
-pub(crate) fn admit(d: Description, segment: usize, command: &[u8], buffer: usize) -> Admitted
+pub fn admit(d: Description, segment: usize, command: &[u8], buffer: usize) -> Admitted
     ensures { λ r. ⌜ r ≡ admitted d segment (now (command .entry)) buffer ⌝ }
 {
     if !segment::fit(d) {
@@ -172,7 +176,7 @@ pub(crate) fn admit(d: Description, segment: usize, command: &[u8], buffer: usiz
     if segment != segment::length(d) {
         return Admitted::Refused(Answer::Segment);
     }
-    let decoded = command::decoded(command);
+    let decoded = command::decoded_from(command);
     match decoded {
         Decoded::Refused(a) => Admitted::Refused(a),
         Decoded::Served(c) => admit_command(d, c, buffer),
