@@ -1,6 +1,6 @@
 -- The laws of commands: what each form has room for, once for all four, and what a decoded command is within.
 -- Assumes nothing.
-use mathlib.Core.Path.{_≡_, refl, sym, ap, _∙_}
+use mathlib.Core.Path.{_≡_, refl, sym, _∙_}
 use mathlib.Core.Bool.{Bool, true, false, not, _&&_, cond}
 use mathlib.Core.List.{List, [], _∷_}
 use Prim.Native.Nat.{ℕ, _+_, _/_, _%_, _^_, _≤_, _<_}
@@ -23,7 +23,6 @@ use Rattle.command.specs.declared.Named.{Named}
 use Rattle.command.specs.declared.Named.the-variants.{Known, Unknown}
 use Rattle.command.specs.declared.Layout.{Layout}
 use Rattle.command.specs.declared.Command.{Command}
-use Rattle.command.specs.declared.Decoded.{Decoded}
 use Rattle.command.specs.declared.Decoded.the-variants.{Served, Refused}
 use Rattle.command.specs.Command.{Row, byteZero, serviceAction, find, recognise, layoutOf, isLong, fields, decodeAs, decode}
 

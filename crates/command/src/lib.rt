@@ -87,6 +87,7 @@ fn recognised(c: &[u8]) -> Named
     }
 }
 
+// The row of a form.
 fn laid_out(f: Form) -> Layout
     ensures { λ r. ⌜ r ≡ layoutOf f ⌝ }
 {
@@ -126,6 +127,7 @@ fn laid_out(f: Form) -> Layout
     }
 }
 
+// Whether the form has expected tags and a mask.
 fn is_long(f: Form) -> bool
     ensures { λ r. ⌜ r ≡ isLong f ⌝ }
 {

@@ -1,13 +1,12 @@
 -- `command::decoded_as`: each refusal denies what the form asks, and what is served has it.
 -- Assumes nothing.
-use mathlib.Core.Path.{_≡_}
+use mathlib.Core.Path.{_≡_, sym, ap, _∙_}
 use mathlib.Core.Bool.{true≢false}
 use mathlib.Core.Logic.{⊎-elim}
 use Rattle.command.specs.declared.Layout.{Layout}
 use Rattle.command.specs.declared.Decoded.the-variants.{Served}
-use mathlib.Core.Path.{sym, ap, _∙_}
 use native.Mathlib.Omega.{arith}
-use Rattle.command.proofs.Laws.{laid-within, decode-length, decode-field, decode-served}
+use Rattle.command.proofs.Laws.{within, decode-length, decode-field, decode-served}
 use borrow.Author.Needs.{needs}
 use Rattle.command.proofs.decoded_as.Statement.{statement}
 use Rattle.command.proofs.decoded_as.Tie as tie
@@ -25,7 +24,7 @@ is-long-requires : tie.Need-is-long-requires
 is-long-requires c κs = search needs
 
 shared-slice-read-if3 : tie.Need-shared-slice-read-if3
-shared-slice-read-if3 c = omega (arith, c .before .before .before .if1 .left, laid-within (c .before .before .before .before .before .before .before .args .f) (c .before .before .before .before .before .laid-out .ensures) (bytes-of (c .before .before .before .before .before .laid-out .ensures)) .tags (sym (c .before .before .is-long .ensures) ∙ c .before .if2 .taken))
+shared-slice-read-if3 c = omega (arith, bytes-of (c .before .before .before .before .before .laid-out .ensures), within (c .before .before .before .before .before .before .before .args .f) .tags (sym (c .before .before .is-long .ensures) ∙ c .before .if2 .taken))
 
 returns-2 : tie.Need-returns-2
 returns-2 c = sym (decode-field _ _ _ (c .before .before .before .before .if1 .left ∙ bytes-of (c .before .before .before .before .before .before .laid-out .ensures)) (sym (c .before .before .before .is-long .ensures) ∙ c .before .before .if2 .taken) (c .if3 .taken))

@@ -1,6 +1,6 @@
 -- `command::decoded_from`: what the bytes name is decoded; what they do not name is refused.
 -- Assumes nothing.
-use mathlib.Core.Path.{sym, ap, _∙_}
+use mathlib.Core.Path.{sym, _∙_}
 use Rattle.command.proofs.Laws.{decode-known, decode-unknown}
 use borrow.Author.Needs.{needs}
 use Rattle.command.proofs.decoded_from.Statement.{statement}
