@@ -44,8 +44,7 @@ field-length m d = simp (length-append, bytes-length)
 pub interval-length : (size : ℕ) (m : Marks) (s : List ℕ) → size ≤ length s → length (withField size m s) ≡ size + 8
 unfolding withField
 interval-length size m s h =
-    length-append (take size s) (fieldBytes m (take size s))
-    ∙ ap₂ (λ (x y : ℕ). x + y) (length-take-le size s h) (field-length m (take size s))
+    length-append (take size s) _ ∙ ap₂ (λ (x y : ℕ). x + y) (length-take-le size s h) (field-length m _)
 
 pub block-length : (size n : ℕ) (m : Marks) (s : List ℕ) → n * size ≤ length s → length (storedBlock size n m s) ≡ n * (size + 8)
 unfolding storedBlock
@@ -68,7 +67,7 @@ field-bytes m d =
 
 pub interval-bytes : (size : ℕ) (m : Marks) (s : List ℕ) → Bytes s → Bytes (withField size m s)
 unfolding withField
-interval-bytes size m s p = append-bytes (take size s) _ (take-bytes size s p) (field-bytes m (take size s))
+interval-bytes size m s p = append-bytes (take size s) _ (take-bytes size s p) (field-bytes m _)
 
 pub block-bytes : (size n : ℕ) (m : Marks) (s : List ℕ) → Bytes s → Bytes (storedBlock size n m s)
 unfolding storedBlock

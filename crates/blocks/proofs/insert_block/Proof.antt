@@ -53,7 +53,7 @@ part-insert-interval-start : tie.Need-part-insert-interval-start Inv-loop μ-loo
 part-insert-interval-start c = search needs
 
 part-insert-interval-end : tie.Need-part-insert-interval-end Inv-loop μ-loop
-part-insert-interval-end c = room (c .before .loop .inv) (c .loop-test .taken)
+part-insert-interval-end c = omega (arith, room (c .before .loop .inv) (c .loop-test .taken))
 
 sub-insert-interval-2 : tie.Need-sub-insert-interval-2 Inv-loop μ-loop
 sub-insert-interval-2 c = search needs
