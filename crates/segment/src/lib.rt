@@ -16,36 +16,42 @@ pub struct Description {
 pub fn fit(d: Description) -> bool
     ensures { λ r. ⌜ r ≡ isSegment d ⌝ }
 {
-    if 3 < d.kind {
+    let kind = d.kind;
+    let block = d.block;
+    let exponent = d.exponent;
+    let first = d.first;
+    let count = d.count;
+    let ato = d.ato;
+    if 3 < kind {
         return false;
     }
-    if 1 < d.ato {
+    if 1 < ato {
         return false;
     }
-    if d.block < 8 {
+    if block < 8 {
         return false;
     }
-    if 4096 < d.block {
+    if 4096 < block {
         return false;
     }
-    if d.block % 8 != 0 {
+    if block % 8 != 0 {
         return false;
     }
-    if 3 < d.exponent {
+    if 3 < exponent {
         return false;
     }
-    if d.kind < 2 {
-        if d.exponent != 0 {
+    if kind < 2 {
+        if exponent != 0 {
             return false;
         }
     }
-    if d.count < 1 {
+    if count < 1 {
         return false;
     }
-    if 65536 < d.count {
+    if 65536 < count {
         return false;
     }
-    if 0x8000_0000_0000_0000 - d.count < d.first {
+    if 0x8000_0000_0000_0000 - count < first {
         return false;
     }
     true
