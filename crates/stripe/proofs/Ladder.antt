@@ -1,11 +1,10 @@
 -- The ladder of refusals: 1 where the description is none, then 11 where a test of the shape fails.
 -- Assumes nothing.
-use mathlib.Core.Path.{_≡_, refl, sym, ap, _∙_}
-use mathlib.Core.Bool.{Bool, true, false, not, _&&_, cond}
+use mathlib.Core.Path.{_≡_, sym, ap, _∙_}
+use mathlib.Core.Bool.{Bool, true, false, not, _&&_}
 use mathlib.Core.List.{List}
-use Prim.Native.Nat.{ℕ, _*_, _≤_, _<_}
+use Prim.Native.Nat.{ℕ, _*_, _≤_}
 use native.Mathlib.Nat.{mul-le-mul}
-use native.Mathlib.Omega.{arith}
 use borrow.Author.Tests.{not-false}
 use lib.Dec.{T, T-not, not-T, eqb, leb, leb→le, le→leb, eqb→eq, eqb-refl}
 use Rattle.words.proofs.Choice.{and-true, and-left, and-right, chosen, not-chosen}

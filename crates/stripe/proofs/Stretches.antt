@@ -1,13 +1,10 @@
 -- A stretch of the exclusive or of parts is the exclusive or of the same stretch of each, so that a loop makes it stretch by stretch.
 -- Assumes nothing.
 use mathlib.Core.Path.{_≡_, refl, sym, ap, ap₂, _∙_}
-use mathlib.Core.List.{List, [], _∷_, _++_, append-assoc}
-use Prim.Native.Nat.{ℕ, zero, suc, _+_, _*_, _≤_, _<_, _-_}
-use native.Mathlib.Nat.{add-zero}
+use mathlib.Core.List.{List, _∷_}
+use Prim.Native.Nat.{ℕ, zero, suc, _+_, _*_, _≤_}
 use native.Mathlib.Omega.{arith}
-use lib.ListN.{length, take, drop, replicate, drop-of-length-le, take-append-drop, length-append, length-take, length-drop}
-use lib.Seq.{drop-drop, take-take, take-nil, take-all, take-add, drop-at, length-take-le}
-use borrow.Rule.Slice.PartMut.{putMid, midOf, post-is}
+use lib.ListN.{length, take, drop, replicate}
 use Rattle.words.specs.Xor.{xors}
 use Rattle.words.proofs.Xor.{xors-take, xors-drop}
 use Rattle.stripe.specs.Stripe.{xorParts, parityOf}

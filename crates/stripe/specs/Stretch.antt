@@ -1,8 +1,7 @@
 -- The exclusive or of parts, a stretch at a time.
-use Prim.Native.Nat.{ℕ, zero, suc, _+_, _*_, _≤_}
+use Prim.Native.Nat.{ℕ, zero, suc}
 use mathlib.Core.List.{List}
-use mathlib.Core.Path.{_≡_}
-use lib.ListN.{length, take, drop}
+use lib.ListN.{take, drop}
 use Rattle.words.specs.Xor.{xors}
 use Rattle.stripe.specs.Stripe.{xorParts, parityOf}
 

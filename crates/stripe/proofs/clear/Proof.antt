@@ -1,7 +1,7 @@
 -- `stripe::clear`: what is cleared, and zeros for what is left, make up zeros.
 -- Assumes nothing.
 use mathlib.Core.Path.{_≡_, refl}
-use mathlib.Core.List.{List, _++_, _∷_}
+use mathlib.Core.List.{List, _++_}
 use Prim.Native.Nat.{ℕ, suc, _+_, _≤_, _<_, _-_}
 use native.Mathlib.Nat.{sub-zero}
 use native.Mathlib.Omega.{arith}
@@ -10,8 +10,6 @@ use Rattle.words.proofs.Parts.{store-next, store-end}
 use borrow.Author.Needs.{needs}
 use Rattle.stripe.proofs.clear.Statement.{statement}
 use Rattle.stripe.proofs.clear.Tie as tie
-use Rattle.stripe.proofs.clear.Reads as reads
-use Rattle.stripe.proofs.clear.Lts as lts
 
 clear-next : (d whole : List ℕ) (n i : ℕ) → i < length d → i < n → take i d ++ replicate (n - i) 0 ≡ whole → take (i + 1) (set d i 0) ++ replicate (n - (i + 1)) 0 ≡ whole
 clear-next d whole n i hd hn e =
@@ -29,33 +27,26 @@ Inv-loop d₀ i₀ d i = (length d ≡ length d₀) × ((i ≤ length d₀) × (
 abbrev μ-loop : tie.MeasureT-loop
 μ-loop d₀ i₀ d i = length d₀ - i
 
--- src/lib.rt:13:5
 loop-holds : tie.Need-loop-holds Inv-loop μ-loop
 loop-holds c = (refl, (omega arith, rw sub-zero))
 
--- src/lib.rt:14:9
 slice-write-d : tie.Need-slice-write-d Inv-loop μ-loop
 slice-write-d c = search needs
 
--- src/lib.rt:15:9
 add-i : tie.Need-add-i Inv-loop μ-loop
 add-i c = search needs
 
--- src/lib.rt:13:5
 loop-less : tie.Need-loop-less Inv-loop μ-loop
 loop-less c = search needs
 
--- src/lib.rt:13:5
 loop-again : tie.Need-loop-again Inv-loop μ-loop
 loop-again c =
     let l = c .before .loop in
     (simp length-set (l .inv .0), (omega arith, clear-next (l .d) _ _ (l .i) (omega arith) (omega arith) (l .inv .1 .1)))
 
--- src/lib.rt:9:1
 same-length : tie.Need-same-length Inv-loop μ-loop
 same-length c = search needs
 
--- src/lib.rt:9:1
 returns : tie.Need-returns Inv-loop μ-loop
 returns c = clear-end _ _ _ (c .before .loop .i) (omega arith) (omega arith) (c .before .loop .inv .1 .1)
 

@@ -1,12 +1,10 @@
 -- `stripe::correct`: each refusal denies a fact of a fit, and the last return has them all.
 -- Assumes nothing.
-use mathlib.Core.Path.{_≡_, refl, sym, ap, _∙_}
-use mathlib.Core.Bool.{Bool, true, false, not, _&&_}
+use mathlib.Core.Path.{_≡_}
+use mathlib.Core.Bool.{Bool, true, false, not}
 use mathlib.Core.List.{List}
-use Prim.Native.Nat.{ℕ, _+_, _*_, _≤_, _<_}
-use native.Mathlib.Nat.{zero-mul}
-use native.Mathlib.Omega.{arith}
-use lib.Dec.{T, eqb, leb, leb→le, le→leb, eqb→eq}
+use Prim.Native.Nat.{ℕ}
+use lib.Dec.{eqb, eqb→eq}
 use lib.ListN.{length}
 use Rattle.words.proofs.Choice.{and-true, and-left, and-right}
 use Rattle.answer.specs.declared.Answer.the-variants as answers
@@ -17,11 +15,6 @@ use Rattle.stripe.proofs.Ladder.{is-one, same, not-one, no-shape, shape
 use borrow.Author.Needs.{needs}
 use Rattle.stripe.proofs.correct.Statement.{statement}
 use Rattle.stripe.proofs.correct.Tie as tie
-use Rattle.stripe.proofs.correct.Reads as reads
-use Rattle.stripe.proofs.correct.Lts as lts
-use Rattle.segment.proofs.fit.Reads as fit-reads
-use Rattle.segment.proofs.length.Reads as length-reads
-use Rattle.stripe.proofs.exchange.Reads as exchange-reads
 
 record Fit (d : Description) (old new parity : List ℕ) : Type 0 where
   typed : d .kind ≡ 0 → ⊥
@@ -56,43 +49,33 @@ module _ (d : Description) (old new parity : List ℕ) (f : Bool) (e : f ≡ isS
       (and-true (eqb (length new) (lengthOf d)) _ (same (length new) (lengthOf d) (h .new-whole)) (same (length parity) (lengthOf d) (h .room))))
       m
 
--- src/lib.rt:159:9
 fit-requires : tie.Need-fit-requires
 fit-requires c κs = search needs
 
--- src/lib.rt:160:9
 returns : tie.Need-returns
 returns c = bad _ _ _ _ _ (c .before .fit .ensures) (c .if1 .taken)
 
--- src/lib.rt:163:9
 returns-2 : tie.Need-returns-2
 returns-2 c = refused _ _ _ _ _ (c .before .before .before .fit .ensures) (c .before .before .if1 .left) (λ f. f .typed (c .if2 .taken))
 
--- src/lib.rt:165:9
 length-requires : tie.Need-length-requires
 length-requires c κs = is-one _ _ (c .before .before .if1 .left) (c .before .before .before .fit .ensures)
 
--- src/lib.rt:167:9
 returns-3 : tie.Need-returns-3
 returns-3 c = refused _ _ _ _ _ (c .before .before .before .before .before .fit .ensures) (c .before .before .before .before .if1 .left) (λ f. c .if3 .taken (cc (f .old-whole, c .before .length .ensures)))
 
--- src/lib.rt:170:9
 returns-4 : tie.Need-returns-4
 returns-4 c = refused _ _ _ _ _ (c .before .before .before .before .before .before .fit .ensures) (c .before .before .before .before .before .if1 .left) (λ f. c .if4 .taken (cc (f .new-whole, c .before .before .length .ensures)))
 
--- src/lib.rt:173:9
 returns-5 : tie.Need-returns-5
 returns-5 c = refused _ _ _ _ _ (c .before .before .before .before .before .before .before .fit .ensures) (c .before .before .before .before .before .before .if1 .left) (λ f. c .if5 .taken (cc (f .room, c .before .before .before .length .ensures)))
 
--- src/lib.rt:175:5
 exchange-requires : tie.Need-exchange-requires
 exchange-requires c κs = search needs
 
--- src/lib.rt:156:1
 same-length : tie.Need-same-length
 same-length c = search needs
 
--- src/lib.rt:156:1
 returns-6 : tie.Need-returns-6
 returns-6 c =
     let tests = c .before .before .before .before in

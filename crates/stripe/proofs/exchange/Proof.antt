@@ -13,8 +13,6 @@ use Rattle.stripe.specs.Stripe.{correctedOf}
 use borrow.Author.Needs.{needs}
 use Rattle.stripe.proofs.exchange.Statement.{statement}
 use Rattle.stripe.proofs.exchange.Tie as tie
-use Rattle.stripe.proofs.exchange.Reads as reads
-use Rattle.stripe.proofs.exchange.Lts as lts
 
 exchange-next : (p old new whole : List ℕ) (i v : ℕ) → i < length p → i < length old → i < length new → v ≡ bitXor (bitXor (getD p i 0) (getD old i 0)) (getD new i 0)
     → take i p ++ correctedOf (drop i old) (drop i new) (drop i p) ≡ whole
@@ -34,45 +32,35 @@ Inv-loop parity₀ old new i₀ parity i = (length parity ≡ length parity₀) 
 abbrev μ-loop : tie.MeasureT-loop
 μ-loop parity₀ old new i₀ parity i = length old - i
 
--- src/lib.rt:79:5
 loop-holds : tie.Need-loop-holds Inv-loop μ-loop
 loop-holds c = search needs
 
--- src/lib.rt:80:21
 slice-read-parity : tie.Need-slice-read-parity Inv-loop μ-loop
 slice-read-parity c = search needs
 
--- src/lib.rt:80:33
 shared-slice-read-parity : tie.Need-shared-slice-read-parity Inv-loop μ-loop
 shared-slice-read-parity c = search needs
 
--- src/lib.rt:80:42
 shared-slice-read-parity-2 : tie.Need-shared-slice-read-parity-2 Inv-loop μ-loop
 shared-slice-read-parity-2 c = search needs
 
--- src/lib.rt:80:9
 slice-write-parity : tie.Need-slice-write-parity Inv-loop μ-loop
 slice-write-parity c = search needs
 
--- src/lib.rt:81:9
 add-i : tie.Need-add-i Inv-loop μ-loop
 add-i c = search needs
 
--- src/lib.rt:79:5
 loop-less : tie.Need-loop-less Inv-loop μ-loop
 loop-less c = search needs
 
--- src/lib.rt:79:5
 loop-again : tie.Need-loop-again Inv-loop μ-loop
 loop-again c =
     let l = c .before .before .before .before .loop in
     (simp length-set (l .inv .0), (omega arith, exchange-next (l .parity) _ _ _ (l .i) _ (omega arith) (omega arith) (omega arith) refl (l .inv .1 .1)))
 
--- src/lib.rt:74:1
 same-length : tie.Need-same-length Inv-loop μ-loop
 same-length c = search needs
 
--- src/lib.rt:74:1
 returns : tie.Need-returns Inv-loop μ-loop
 returns c = exchange-end _ _ _ _ (c .before .loop .i) (omega arith) (c .before .loop .inv .1 .1)
 

@@ -2,7 +2,7 @@
 -- Assumes nothing.
 use mathlib.Core.Path.{_≡_, refl, sym, ap, ap₂, _∙_}
 use mathlib.Core.List.{List, _++_, append-assoc}
-use Prim.Native.Nat.{ℕ, _+_, _*_, _≤_, _<_, _-_}
+use Prim.Native.Nat.{ℕ, _+_, _≤_, _<_, _-_}
 use native.Mathlib.Omega.{arith}
 use lib.ListN.{length, take, drop, length-append}
 use lib.Seq.{take-add, take-at, take-all, length-take-le}
@@ -12,10 +12,6 @@ use Rattle.stripe.proofs.Stretches.{joined-length}
 use borrow.Author.Needs.{needs}
 use Rattle.stripe.proofs.join.Statement.{statement}
 use Rattle.stripe.proofs.join.Tie as tie
-use Rattle.stripe.proofs.join.Reads as reads
-use Rattle.stripe.proofs.join.Lts as lts
-use Rattle.stripe.proofs.join_stretch.Reads as join-stretch-reads
-use Rattle.stripe.proofs.stretch_end.Reads as stretch-end-reads
 
 record Going (whole out₀ out : List ℕ) (at : ℕ) : Type 0 where
   kept : length out ≡ length out₀
@@ -51,43 +47,33 @@ Inv-loop out₀ before m after n long at₀ out at = Going (joined (length out�
 abbrev μ-loop : tie.MeasureT-loop
 μ-loop out₀ before m after n long at₀ out at = length out₀ - at
 
--- src/lib.rt:62:5
 loop-holds : tie.Need-loop-holds Inv-loop μ-loop
 loop-holds c = record { kept = refl; sized = joined-length _ _ _ _ _ (search needs) (search needs); within = omega arith; made = refl }
 
--- src/lib.rt:63:13
 stretch-end-requires : tie.Need-stretch-end-requires Inv-loop μ-loop
 stretch-end-requires c κs = search needs
 
--- src/lib.rt:64:22
 sub-join-stretch : tie.Need-sub-join-stretch Inv-loop μ-loop
 sub-join-stretch c = search needs
 
--- src/lib.rt:64:22
 part-join-stretch-start : tie.Need-part-join-stretch-start Inv-loop μ-loop
 part-join-stretch-start c = search needs
 
--- src/lib.rt:64:22
 part-join-stretch-end : tie.Need-part-join-stretch-end Inv-loop μ-loop
 part-join-stretch-end c = search needs
 
--- src/lib.rt:64:9
 join-stretch-requires : tie.Need-join-stretch-requires Inv-loop μ-loop
 join-stretch-requires c κs = search needs
 
--- src/lib.rt:62:5
 loop-less : tie.Need-loop-less Inv-loop μ-loop
 loop-less c = search needs
 
--- src/lib.rt:62:5
 loop-again : tie.Need-loop-again Inv-loop μ-loop
 loop-again c = search turn
 
--- src/lib.rt:56:1
 same-length : tie.Need-same-length Inv-loop μ-loop
 same-length c = search needs
 
--- src/lib.rt:56:1
 returns : tie.Need-returns Inv-loop μ-loop
 returns c = search done
 

@@ -1,12 +1,12 @@
 -- `stripe::make`: each refusal denies a fact of a fit, and the last return has them all.
 -- Assumes nothing.
-use mathlib.Core.Path.{_≡_, refl, sym, ap, _∙_}
-use mathlib.Core.Bool.{Bool, true, false, not, _&&_}
+use mathlib.Core.Path.{_≡_, ap, _∙_}
+use mathlib.Core.Bool.{Bool, true, false, not}
 use mathlib.Core.List.{List, []}
-use Prim.Native.Nat.{ℕ, _+_, _*_, _≤_, _<_}
+use Prim.Native.Nat.{ℕ, _*_, _≤_}
 use native.Mathlib.Nat.{zero-mul}
 use native.Mathlib.Omega.{arith}
-use lib.Dec.{T, eqb, leb, leb→le, le→leb, eqb→eq}
+use lib.Dec.{eqb, eqb→eq}
 use lib.ListN.{length}
 use Rattle.words.proofs.Choice.{and-true, and-left, and-right}
 use Rattle.answer.specs.declared.Answer.the-variants as answers
@@ -18,11 +18,6 @@ use Rattle.stripe.proofs.Ladder.{is-one, all-most, members-facts, membe
 use borrow.Author.Needs.{needs}
 use Rattle.stripe.proofs.make.Statement.{statement}
 use Rattle.stripe.proofs.make.Tie as tie
-use Rattle.stripe.proofs.make.Reads as reads
-use Rattle.stripe.proofs.make.Lts as lts
-use Rattle.segment.proofs.fit.Reads as fit-reads
-use Rattle.segment.proofs.length.Reads as length-reads
-use Rattle.stripe.proofs.join.Reads as join-reads
 
 record Fit (d : Description) (k : ℕ) (s out : List ℕ) : Type 0 where
   typed : d .kind ≡ 0 → ⊥
@@ -60,57 +55,44 @@ module _ (d : Description) (k : ℕ) (s out : List ℕ) (f : Bool) (e : f ≡ is
       (and-true (eqb (length s) (k * lengthOf d)) _ (same (length s) (k * lengthOf d) (h .whole)) (same (length out) (lengthOf d) (h .room))))
       (m ∙ ap (λ (l : ℕ). parityOf l k s) (h .room))
 
--- src/lib.rt:100:9
 fit-requires : tie.Need-fit-requires
 fit-requires c κs = search needs
 
--- src/lib.rt:101:9
 returns : tie.Need-returns
 returns c = bad _ _ _ _ _ (c .before .fit .ensures) (c .if1 .taken)
 
--- src/lib.rt:104:9
 returns-2 : tie.Need-returns-2
 returns-2 c = refused _ _ _ _ _ (c .before .before .before .fit .ensures) (c .before .before .if1 .left) (λ f. f .typed (c .if2 .taken))
 
--- src/lib.rt:107:9
 returns-3 : tie.Need-returns-3
 returns-3 c = refused _ _ _ _ _ (c .before .before .before .before .fit .ensures) (c .before .before .before .if1 .left) (λ f. omega (arith, f .some))
 
--- src/lib.rt:110:9
 returns-4 : tie.Need-returns-4
 returns-4 c = refused _ _ _ _ _ (c .before .before .before .before .before .fit .ensures) (c .before .before .before .before .if1 .left) (λ f. omega (arith, f .few))
 
--- src/lib.rt:113:9
 length-requires : tie.Need-length-requires
 length-requires c κs = is-one _ _ (c .before .before .before .before .if1 .left) (c .before .before .before .before .before .fit .ensures)
 
--- src/lib.rt:114:25
 mul-if5 : tie.Need-mul-if5
 mul-if5 c = omega (arith, all-most _ (c .before .before .before .before .before .before .before .before .before .args .k) _ (is-one _ _ (c .before .before .before .before .before .if1 .left) (c .before .before .before .before .before .before .fit .ensures)) (c .length .ensures) (omega arith))
 
--- src/lib.rt:115:9
 returns-5 : tie.Need-returns-5
 returns-5 c = refused _ _ _ _ _ (c .before .before .before .before .before .before .before .fit .ensures) (c .before .before .before .before .before .before .if1 .left) (λ f. c .if5 .taken (cc (f .whole, c .before .length .ensures)))
 
--- src/lib.rt:118:9
 returns-6 : tie.Need-returns-6
 returns-6 c = refused _ _ _ _ _ (c .before .before .before .before .before .before .before .before .fit .ensures) (c .before .before .before .before .before .before .before .if1 .left) (λ f. c .if6 .taken (cc (f .room, c .before .before .length .ensures)))
 
--- src/lib.rt:120:31
 slice-aggregate-join : tie.Need-slice-aggregate-join
 slice-aggregate-join c = search needs
 
--- src/lib.rt:120:5
 join-requires : tie.Need-join-requires
 join-requires c κs =
     let tests = c .before .before in
     (cc (tests .before .if5 .left, tests .if6 .left), zero-mul _)
 
--- src/lib.rt:97:1
 same-length : tie.Need-same-length
 same-length c = search needs
 
--- src/lib.rt:97:1
 returns-7 : tie.Need-returns-7
 returns-7 c =
     let tests = c .before .before .before .before .before in

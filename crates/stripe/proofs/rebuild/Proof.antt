@@ -1,12 +1,11 @@
 -- `stripe::rebuild`: each refusal denies a fact of a fit, and the last return has them all.
 -- Assumes nothing.
-use mathlib.Core.Path.{_≡_, refl, sym, ap, _∙_}
-use mathlib.Core.Bool.{Bool, true, false, not, _&&_}
+use mathlib.Core.Path.{_≡_, ap, _∙_}
+use mathlib.Core.Bool.{Bool, true, false, not}
 use mathlib.Core.List.{List}
-use Prim.Native.Nat.{ℕ, _+_, _*_, _≤_, _<_}
-use native.Mathlib.Nat.{zero-mul}
+use Prim.Native.Nat.{ℕ, _+_, _*_, _≤_}
 use native.Mathlib.Omega.{arith}
-use lib.Dec.{T, eqb, leb, leb→le, le→leb, eqb→eq}
+use lib.Dec.{eqb, leb, leb→le, le→leb, eqb→eq}
 use lib.ListN.{length}
 use Rattle.words.proofs.Choice.{and-true, and-left, and-right}
 use Rattle.answer.specs.declared.Answer.the-variants as answers
@@ -17,11 +16,6 @@ use Rattle.stripe.proofs.Ladder.{is-one, all-most, members-facts, membe
 use borrow.Author.Needs.{needs}
 use Rattle.stripe.proofs.rebuild.Statement.{statement}
 use Rattle.stripe.proofs.rebuild.Tie as tie
-use Rattle.stripe.proofs.rebuild.Reads as reads
-use Rattle.stripe.proofs.rebuild.Lts as lts
-use Rattle.segment.proofs.fit.Reads as fit-reads
-use Rattle.segment.proofs.length.Reads as length-reads
-use Rattle.stripe.proofs.restore.Reads as restore-reads
 
 record Fit (d : Description) (k lost : ℕ) (s out : List ℕ) : Type 0 where
   typed : d .kind ≡ 0 → ⊥
@@ -63,61 +57,47 @@ module _ (d : Description) (k lost : ℕ) (s out : List ℕ) (f : Bool) (e : f �
       (and-true (eqb (length s) ((k + 1) * lengthOf d)) _ (same (length s) ((k + 1) * lengthOf d) (h .whole)) (same (length out) (lengthOf d) (h .room)))))
       (m ∙ ap (λ (l : ℕ). rebuiltOf l k lost s) (h .room))
 
--- src/lib.rt:128:9
 fit-requires : tie.Need-fit-requires
 fit-requires c κs = search needs
 
--- src/lib.rt:129:9
 returns : tie.Need-returns
 returns c = bad _ _ _ _ _ _ (c .before .fit .ensures) (c .if1 .taken)
 
--- src/lib.rt:132:9
 returns-2 : tie.Need-returns-2
 returns-2 c = refused _ _ _ _ _ _ (c .before .before .before .fit .ensures) (c .before .before .if1 .left) (λ f. f .typed (c .if2 .taken))
 
--- src/lib.rt:135:9
 returns-3 : tie.Need-returns-3
 returns-3 c = refused _ _ _ _ _ _ (c .before .before .before .before .fit .ensures) (c .before .before .before .if1 .left) (λ f. omega (arith, f .some))
 
--- src/lib.rt:138:9
 returns-4 : tie.Need-returns-4
 returns-4 c = refused _ _ _ _ _ _ (c .before .before .before .before .before .fit .ensures) (c .before .before .before .before .if1 .left) (λ f. omega (arith, f .few))
 
--- src/lib.rt:141:9
 returns-5 : tie.Need-returns-5
 returns-5 c = refused _ _ _ _ _ _ (c .before .before .before .before .before .before .fit .ensures) (c .before .before .before .before .before .if1 .left) (λ f. omega (arith, f .among))
 
--- src/lib.rt:144:9
 length-requires : tie.Need-length-requires
 length-requires c κs = is-one _ _ (c .before .before .before .before .before .if1 .left) (c .before .before .before .before .before .before .fit .ensures)
 
--- src/lib.rt:145:24
 add-if6 : tie.Need-add-if6
 add-if6 c = search needs
 
--- src/lib.rt:145:23
 mul-if6 : tie.Need-mul-if6
 mul-if6 c = omega (arith, all-most _ (c .before .before .before .before .before .before .before .before .before .before .args .k + 1) _ (is-one _ _ (c .before .before .before .before .before .before .if1 .left) (c .before .before .before .before .before .before .before .fit .ensures)) (c .length .ensures) (omega arith))
 
--- src/lib.rt:146:9
 returns-6 : tie.Need-returns-6
 returns-6 c = refused _ _ _ _ _ _ (c .before .before .before .before .before .before .before .before .fit .ensures) (c .before .before .before .before .before .before .before .if1 .left) (λ f. c .if6 .taken (cc (f .whole, c .before .length .ensures)))
 
--- src/lib.rt:149:9
 returns-7 : tie.Need-returns-7
 returns-7 c = refused _ _ _ _ _ _ (c .before .before .before .before .before .before .before .before .before .fit .ensures) (c .before .before .before .before .before .before .before .before .if1 .left) (λ f. c .if7 .taken (cc (f .room, c .before .before .length .ensures)))
 
--- src/lib.rt:151:5
 restore-requires : tie.Need-restore-requires
 restore-requires c κs =
     let tests = c .before in
     (omega (arith, tests .before .before .before .if5 .left), cc (tests .before .if6 .left, tests .if7 .left))
 
--- src/lib.rt:125:1
 same-length : tie.Need-same-length
 same-length c = search needs
 
--- src/lib.rt:125:1
 returns-8 : tie.Need-returns-8
 returns-8 c =
     let tests = c .before .before .before .before in

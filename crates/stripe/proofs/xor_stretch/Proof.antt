@@ -1,6 +1,6 @@
 -- `stripe::xor_stretch`: what stands, with the parts that are left, gives what all parts give.
 -- Assumes nothing.
-use mathlib.Core.Path.{_≡_, refl, sym, ap, ap₂, _∙_}
+use mathlib.Core.Path.{_≡_, refl, sym, ap, _∙_}
 use mathlib.Core.List.{List}
 use Prim.Native.Nat.{ℕ, zero, suc, _+_, _*_, _≤_, _<_, _-_}
 use native.Mathlib.Nat.{zero-add}
@@ -14,9 +14,6 @@ use Rattle.stripe.specs.Stretch.{strided}
 use borrow.Author.Needs.{needs}
 use Rattle.stripe.proofs.xor_stretch.Statement.{statement}
 use Rattle.stripe.proofs.xor_stretch.Tie as tie
-use Rattle.stripe.proofs.xor_stretch.Reads as reads
-use Rattle.stripe.proofs.xor_stretch.Lts as lts
-use Rattle.words.proofs.xor_into.Reads as xor-into-reads
 
 record Going (piece₀ parts : List ℕ) (at long count : ℕ) (piece : List ℕ) (left i : ℕ) : Type 0 where
   kept : length piece ≡ length piece₀
@@ -64,59 +61,46 @@ Inv-loop piece₀ at parts long count left₀ i₀ piece left i = Going piece₀
 abbrev μ-loop : tie.MeasureT-loop
 μ-loop piece₀ at parts long count left₀ i₀ piece left i = left
 
--- src/lib.rt:26:5
 loop-holds : tie.Need-loop-holds Inv-loop μ-loop
 loop-holds c =
     let pre = c .before .before .pre in
     record { kept = refl; near = pre .0; from = rw zero-add (pre .1); made = rw zero-add refl }
 
--- src/lib.rt:27:20
 add-from : tie.Need-add-from Inv-loop μ-loop
 add-from c = omega (arith, reach (c .before .loop .inv) (c .loop-test .taken), c .before .before .before .before .good)
 
--- src/lib.rt:28:19
 add-end : tie.Need-add-end Inv-loop μ-loop
 add-end c = omega (arith, reach (c .before .loop .inv) (c .loop-test .taken), c .before .before .before .before .good)
 
--- src/lib.rt:29:32
 sub-xor-into : tie.Need-sub-xor-into Inv-loop μ-loop
 sub-xor-into c = search needs
 
--- src/lib.rt:29:32
 part-xor-into-start : tie.Need-part-xor-into-start Inv-loop μ-loop
 part-xor-into-start c = search needs
 
--- src/lib.rt:29:32
 part-xor-into-end : tie.Need-part-xor-into-end Inv-loop μ-loop
 part-xor-into-end c = reach (c .before .before .loop .inv) (c .before .loop-test .taken)
 
--- src/lib.rt:29:9
 xor-into-requires : tie.Need-xor-into-requires Inv-loop μ-loop
 xor-into-requires c κs = search needs
 
--- src/lib.rt:30:9
 add-i : tie.Need-add-i Inv-loop μ-loop
 add-i c =
     let here = c .before .before .before .before .before in
     omega (arith, within (here .before .loop .inv) (here .loop-test .taken), here .before .before .before .before .good)
 
--- src/lib.rt:31:9
 sub-left : tie.Need-sub-left Inv-loop μ-loop
 sub-left c = search needs
 
--- src/lib.rt:26:5
 loop-less : tie.Need-loop-less Inv-loop μ-loop
 loop-less c = search needs
 
--- src/lib.rt:26:5
 loop-again : tie.Need-loop-again Inv-loop μ-loop
 loop-again c = search turn
 
--- src/lib.rt:20:1
 same-length : tie.Need-same-length Inv-loop μ-loop
 same-length c = search needs
 
--- src/lib.rt:20:1
 returns : tie.Need-returns Inv-loop μ-loop
 returns c =
     let l = c .before .loop in
