@@ -92,7 +92,7 @@ run d c s h k =
       addresses = h .end;
       intervals = omega (arith, intervals-few d c (h .described) (h .few));
       few = sizes d (h .described) .intervals-most;
-      size = sizes d (h .described) .size-most
+      size = sizes d (h .described) .size-most;
     }
 
 -- ---- the transfer's place in the segment
@@ -157,10 +157,11 @@ module _ (d : Description) (c : Command) (size n : ℕ) (z : size ≡ sizeOf d) 
 
   pub insert-fits : (at s b : ℕ) → Placed d c at s → Fitted d c b → Parted d c
       → (c .length * (n * size) ≡ b) × (at + c .length * (n * (size + 8)) ≤ s) × ((size ≤ 4096) × (n ≤ 8))
-  insert-fits at s b h f p =
-      (rw (z, i) (moved-intervals d c (h .described) (p .zero) ∙ sym (f .room)),
-      rw (z, i, span-intervals d c (h .described) (p .fields)) (h .fits),
-      (rw z (sizes d (h .described) .size-most), rw i (sizes d (h .described) .intervals-most)))
+  insert-fits at s b h f p = (
+    rw (z, i) (moved-intervals d c (h .described) (p .zero) ∙ sym (f .room)),
+    rw (z, i, span-intervals d c (h .described) (p .fields)) (h .fits),
+    (rw z (sizes d (h .described) .size-most), rw i (sizes d (h .described) .intervals-most)),
+  )
 
 pub store-fits : (d : Description) (c : Command) (stored at s b : ℕ) → stored ≡ storedOf d → Placed d c at s → Fitted d c b → whole d c ≡ true
     → (c .length * stored ≡ b) × (at + c .length * stored ≤ s)

@@ -31,7 +31,7 @@ marks-requires : tie.Need-marks-requires
 marks-requires c κs = c .before .before .before .before .before .before .pre .1 .0 .described
 
 insert-blocks-requires : tie.Need-insert-blocks-requires
-insert-blocks-requires c κs = 
+insert-blocks-requires c κs =
     let f = insert-fits _ (c .before .before .before .before .before .before .before .before .args .c) _ _ (c .before .before .before .size .ensures) (c .before .before .intervals .ensures) _ _ _ (c .before .before .before .before .before .before .before .before .pre .1 .0) (c .before .before .before .before .before .before .before .before .pre .1 .1) (parted _ _ (sym (c .before .before .before .before .before .moved-whole .ensures) ∙ c .before .before .before .before .if1 .left)) in
     (c .before .before .before .before .before .before .before .before .pre .0, (f .0, (f .1, (f .2 .0, f .2 .1, marks-step _ _ _ (c .before .marks .ensures)))))
 
