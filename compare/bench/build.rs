@@ -1,5 +1,5 @@
-//! Links the product's static archive, which the product's own build leaves in
-//! target/staticlib of the repository. LAMPTASSEL_LIB_DIR names another folder.
+//! Links the product's static archive for this machine, which tools/archive leaves
+//! in target/native of the repository. LAMPTASSEL_LIB_DIR names another folder.
 
 use std::env;
 use std::path::{Path, PathBuf};
@@ -12,14 +12,14 @@ fn main() {
             // bench, below compare, below the repository.
             let manifest = env::var_os("CARGO_MANIFEST_DIR").expect("cargo names the folder");
             let repository = Path::new(&manifest).ancestors().nth(2);
-            repository.expect("two folders up").join("target/staticlib")
+            repository.expect("two folders up").join("target/native")
         }
     };
     let archive = folder.join("liblamptassel.a");
     println!("cargo::rerun-if-changed={}", archive.display());
     if !archive.is_file() {
         println!(
-            "cargo::error=build the archive first: no {}",
+            "cargo::error=build the archive first, by tools/archive: no {}",
             archive.display()
         );
         return;

@@ -1,20 +1,25 @@
 //! The speed of the archive beside the reference, on the same inputs in one run.
 //!
 //! Exit status 1 if results differ, or with --strict if a ratio is over its
-//! limit; 2 for arguments it does not know.
+//! limit; 2 for arguments it does not know; 3 if its output cannot be written.
 
 mod archive;
 mod guard;
 mod options;
 mod table;
 
+use std::fmt::Display;
+use std::io::{self, ErrorKind, Write};
 use std::process::ExitCode;
 
 use options::{Options, USAGE};
-use table::Verdict;
+use table::{Output, Verdict};
 
 /// A table by name. A further benchmark is a module with a `run` and a line here.
-type Table = (&'static str, fn(&Options) -> Verdict);
+type Table = (
+    &'static str,
+    fn(&Options, Output<'_>) -> io::Result<Verdict>,
+);
 
 const TABLES: [Table; 1] = [("guard", guard::run)];
 
@@ -22,24 +27,42 @@ fn main() -> ExitCode {
     let options = match Options::read(std::env::args().skip(1)).and_then(known) {
         Ok(options) => options,
         Err(message) => {
-            eprintln!("bench: {message}\n{USAGE}");
+            complain(format_args!("{message}\n{USAGE}"));
             return ExitCode::from(2);
         }
     };
-    let verdict = TABLES
-        .iter()
-        .filter(|(name, _)| options.wants(name))
-        .map(|(_, run)| run(&options))
-        .fold(Verdict::default(), Verdict::and);
-    if verdict.differ {
-        eprintln!("bench: results differ");
-        return ExitCode::FAILURE;
+    match tables(&options, &mut io::stdout()) {
+        Ok(verdict) if verdict.differ => {
+            complain("results differ");
+            ExitCode::FAILURE
+        }
+        Ok(verdict) if verdict.over && options.strict => {
+            complain("over a limit");
+            ExitCode::FAILURE
+        }
+        Ok(_) => ExitCode::SUCCESS,
+        Err(error) => {
+            // A reader who has left wants no message.
+            if error.kind() != ErrorKind::BrokenPipe {
+                complain(error);
+            }
+            ExitCode::from(3)
+        }
     }
-    if verdict.over && options.strict {
-        eprintln!("bench: over a limit");
-        return ExitCode::FAILURE;
+}
+
+/// Measures and prints the tables that are wanted.
+fn tables(options: &Options, out: Output<'_>) -> io::Result<Verdict> {
+    let mut verdict = Verdict::default();
+    for (_, run) in TABLES.iter().filter(|(name, _)| options.wants(name)) {
+        verdict = verdict.and(run(options, out)?);
     }
-    ExitCode::SUCCESS
+    Ok(verdict)
+}
+
+/// A message to standard error; if that is closed there is nobody to tell.
+fn complain(message: impl Display) {
+    let _ = writeln!(io::stderr(), "bench: {message}");
 }
 
 /// The options, unless they name a table that is not here.

@@ -1,18 +1,27 @@
 //! Measuring two ways of doing one thing, and the table of what came out.
 
+use std::io::{self, Write};
 use std::time::{Duration, Instant};
 
+/// Where tables are printed.
+pub type Output<'a> = &'a mut dyn Write;
+
+/// Does some work and fills a list of bytes with its results.
+pub type Pass<'a> = Box<dyn FnMut(&mut [u8]) + 'a>;
+
 /// One line of a table: a pass done by the archive and the same pass done by the
-/// reference. Each returns a running hash of its results.
+/// reference.
 pub struct Case<'a> {
     /// The size that names the line.
     pub bytes: usize,
     /// How many units one pass does.
     pub count: usize,
+    /// How many bytes of results one pass writes.
+    pub results: usize,
     /// The greatest ratio ours/Rust that is wanted.
     pub limit: Option<f64>,
-    pub ours: Box<dyn FnMut() -> u64 + 'a>,
-    pub rust: Box<dyn FnMut() -> u64 + 'a>,
+    pub ours: Pass<'a>,
+    pub rust: Pass<'a>,
 }
 
 /// What a table found.
@@ -33,7 +42,7 @@ impl Verdict {
     }
 }
 
-/// The best time of each way, and whether they always gave the same results.
+/// The best time of each way, and whether they ever gave different results.
 struct Best {
     ours: Duration,
     rust: Duration,
@@ -41,7 +50,13 @@ struct Best {
 }
 
 /// Measures all cases in interleaved rounds and prints their table.
-pub fn measure(title: &str, unit: &str, rounds: usize, mut cases: Vec<Case<'_>>) -> Verdict {
+pub fn measure(
+    out: Output<'_>,
+    title: &str,
+    unit: &str,
+    rounds: usize,
+    mut cases: Vec<Case<'_>>,
+) -> io::Result<Verdict> {
     let mut bests: Vec<Best> = cases
         .iter()
         .map(|_| Best {
@@ -50,28 +65,35 @@ pub fn measure(title: &str, unit: &str, rounds: usize, mut cases: Vec<Case<'_>>)
             differ: false,
         })
         .collect();
+    let longest = cases.iter().map(|case| case.results).max().unwrap_or(0);
+    let (mut ours, mut rust) = (vec![0; longest], vec![0; longest]);
     for round in 0..rounds {
         for (case, best) in cases.iter_mut().zip(&mut bests) {
+            let (ours, rust) = (&mut ours[..case.results], &mut rust[..case.results]);
+            // Different from each other, so that what both leave unwritten shows too.
+            ours.fill(0x55);
+            rust.fill(0xAA);
             // Each way goes first in every other round.
-            let (ours, rust) = if round % 2 == 0 {
-                let ours = timed(&mut case.ours, &mut best.ours);
-                (ours, timed(&mut case.rust, &mut best.rust))
+            if round % 2 == 0 {
+                timed(&mut case.ours, ours, &mut best.ours);
+                timed(&mut case.rust, rust, &mut best.rust);
             } else {
-                let rust = timed(&mut case.rust, &mut best.rust);
-                (timed(&mut case.ours, &mut best.ours), rust)
-            };
+                timed(&mut case.rust, rust, &mut best.rust);
+                timed(&mut case.ours, ours, &mut best.ours);
+            }
             best.differ |= ours != rust;
         }
     }
 
-    println!("{title}, best of {rounds}");
+    writeln!(out, "{title}, best of {rounds}")?;
     let (ours, rust) = (format!("ours ns/{unit}"), format!("rust ns/{unit}"));
-    println!("bytes  {ours}  {rust}  ratio  limit");
+    writeln!(out, "bytes  {ours}  {rust}  ratio  limit")?;
     let mut verdict = Verdict::default();
     for (case, best) in cases.iter().zip(&bests) {
         let ratio = best.ours.as_secs_f64() / best.rust.as_secs_f64();
         let over = case.limit.is_some_and(|limit| ratio > limit);
-        println!(
+        writeln!(
+            out,
             "{:5}  {:w$.2}  {:w$.2}  {ratio:5.2}  {:>5}{}{}",
             case.bytes,
             nanoseconds(best.ours, case.count),
@@ -80,21 +102,20 @@ pub fn measure(title: &str, unit: &str, rounds: usize, mut cases: Vec<Case<'_>>)
             if over { "  over" } else { "" },
             if best.differ { "  DIFFERENT" } else { "" },
             w = ours.len(),
-        );
+        )?;
         verdict = verdict.and(Verdict {
             differ: best.differ,
             over,
         });
     }
-    println!();
-    verdict
+    writeln!(out)?;
+    Ok(verdict)
 }
 
-fn timed(pass: &mut dyn FnMut() -> u64, best: &mut Duration) -> u64 {
+fn timed(pass: &mut dyn FnMut(&mut [u8]), results: &mut [u8], best: &mut Duration) {
     let start = Instant::now();
-    let results = pass();
+    pass(results);
     *best = start.elapsed().min(*best);
-    results
 }
 
 fn nanoseconds(time: Duration, count: usize) -> f64 {

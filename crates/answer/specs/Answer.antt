@@ -1,6 +1,6 @@
 -- "Answer numbers": the table's number, sense, address and place for each answer.
 use Prim.Native.Nat.{ℕ}
-use mathlib.Core.Bool.{Bool, true, false}
+use mathlib.Core.Bool.{Bool, true, false, cond}
 use Rattle.answer.specs.declared.Answer.{Answer}
 use Rattle.answer.specs.declared.Answer.the-variants.{Good, Description, Segment, CommandLength, BufferLength, Operation, Field, Address, Guard, Application, Reference, Stripe, Parameter, Listing, Size}
 
@@ -72,6 +72,10 @@ isGood Stripe = false
 isGood Parameter = false
 isGood Listing = false
 isGood Size = false
+
+-- the first of two answers that is not good
+abbrev pub orElse : Answer → Answer → Answer
+orElse a b = cond (isGood a) b a
 
 -- key, code and qualifier, two hexadecimal digits each: 05/20/00 is 0x05_20_00; 0 where the table has none
 abbrev pub senseOf : Answer → ℕ

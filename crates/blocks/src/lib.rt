@@ -20,7 +20,17 @@ pub fn strip(d: &mut [u8], s: &[u8], size: usize, count: usize)
     requires { ⌜ count * size ≡ length (now d) ⌝ }
     ensures { λ _. ⌜ now (d .exit) ≡ stripped size count (now (s .entry)) ⌝ }
 {
-    // a loop: words::copy(&mut d[a..b], &s[i..m])
+    let mut left = count;
+    let mut i: usize = 0;
+    let mut a: usize = 0;
+    while 0 < left {
+        let m = i + size;
+        let e = a + size;
+        words::copy(&mut d[a..e], &s[i..m]);
+        i += size + 8;
+        a = e;
+        left -= 1;
+    }
 }
 
 // Fills `d`, a stored interval, from its data `s`.
@@ -29,7 +39,12 @@ fn insert_interval(t: &[u16; 256], d: &mut [u8], s: &[u8], m: Marks)
     requires { ⌜ length (now s) + 8 ≡ length (now d) ⌝ }
     ensures { λ _. ⌜ now (d .exit) ≡ withField (length (now (s .entry))) m (now (s .entry)) ⌝ }
 {
-    // copy the data, then write2 guard, write2 application, write4 reference at length s, + 2, + 4
+    let n = s.len();
+    words::copy(&mut d[..n], s);
+    let g = guard::guard_through(t, s);
+    words::write2(d, n, g);
+    words::write2(d, n + 2, m.application);
+    words::write4(d, n + 4, m.reference);
 }
 
 // Fills `d`, a stored block, from its user data `s`.
@@ -39,7 +54,26 @@ pub fn insert_block(t: &[u16; 256], d: &mut [u8], s: &[u8], size: usize, interva
     requires { ⌜ intervals * (size + 8) ≡ length (now d) ⌝ }
     ensures { λ _. ⌜ now (d .exit) ≡ storedBlock size intervals m (now (s .entry)) ⌝ }
 {
-    // a loop: insert_interval(t, &mut d[a..b], &s[i..j], here)
+    let application = m.application;
+    let step = m.step;
+    let mut reference = m.reference;
+    let mut left = intervals;
+    let mut i: usize = 0;
+    let mut a: usize = 0;
+    while 0 < left {
+        let j = i + size;
+        let e = a + (size + 8);
+        let here = Marks {
+            application,
+            reference,
+            step,
+        };
+        insert_interval(t, &mut d[a..e], &s[i..j], here);
+        reference = std::num::wrapping_add_u32(reference, step);
+        i = j;
+        a = e;
+        left -= 1;
+    }
 }
 
 // Overwrites `count` blocks of the segment, from `at` on, with stored blocks made of the user data in `s`. The middle of the segment is handed on
@@ -57,9 +91,32 @@ pub fn insert_blocks(
     requires { ⌜ Right (now t) ⌝ }
     requires { ⌜ count * (intervals * size) ≡ length (now s) ⌝ }
     requires { ⌜ at + count * (intervals * (size + 8)) ≤ length (now segment) ⌝ }
+    requires { ⌜ (size ≤ 4096) × (intervals ≤ 8) × (m .step ≤ 1) ⌝ }
     ensures { λ _. ⌜ now (segment .exit) ≡ put at (storedBlocks size intervals count m (now (s .entry))) (now (segment .entry)) ⌝ }
 {
-    // a loop over blocks: insert_block(t, &mut segment[a..e], &s[i..j], size, intervals, here)
+    let part = intervals * size;
+    let stored = intervals * (size + 8);
+    let application = m.application;
+    let step = m.step;
+    let by = intervals as u32 * step;
+    let mut reference = m.reference;
+    let mut left = count;
+    let mut i: usize = 0;
+    let mut a = at;
+    while 0 < left {
+        let j = i + part;
+        let e = a + stored;
+        let here = Marks {
+            application,
+            reference,
+            step,
+        };
+        insert_block(t, &mut segment[a..e], &s[i..j], size, intervals, here);
+        reference = std::num::wrapping_add_u32(reference, by);
+        i = j;
+        a = e;
+        left -= 1;
+    }
 }
 
 // Overwrites `count` blocks of `stored` bytes of the segment, from `at` on, with those in `s`, block by block.
@@ -68,5 +125,15 @@ pub fn store_blocks(segment: &mut [u8], at: usize, s: &[u8], stored: usize, coun
     requires { ⌜ at + count * stored ≤ length (now segment) ⌝ }
     ensures { λ _. ⌜ now (segment .exit) ≡ put at (now (s .entry)) (now (segment .entry)) ⌝ }
 {
-    // a loop: words::copy(&mut segment[a..e], &s[i..j])
+    let mut left = count;
+    let mut i: usize = 0;
+    let mut a = at;
+    while 0 < left {
+        let j = i + stored;
+        let e = a + stored;
+        words::copy(&mut segment[a..e], &s[i..j]);
+        i = j;
+        a = e;
+        left -= 1;
+    }
 }

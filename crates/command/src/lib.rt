@@ -2,7 +2,7 @@
 ghost use mathlib.Core.Path.{_≡_};
 ghost use Prim.Native.Nat.{_≤_};
 ghost use lib.ListN.{length};
-ghost use Rattle.command.specs.Command.{recognise, layoutOf, fields, decodeAs, decode};
+ghost use Rattle.command.specs.Command.{recognise, layoutOf, isLong, fields, decodeAs, decode};
 use answer::Answer;
 
 pub enum Operation {
@@ -87,6 +87,7 @@ fn recognised(c: &[u8]) -> Named
     }
 }
 
+// The row of a form.
 fn laid_out(f: Form) -> Layout
     ensures { λ r. ⌜ r ≡ layoutOf f ⌝ }
 {
@@ -126,25 +127,76 @@ fn laid_out(f: Form) -> Layout
     }
 }
 
+// Whether the form has expected tags and a mask.
+fn is_long(f: Form) -> bool
+    ensures { λ r. ⌜ r ≡ isLong f ⌝ }
+{
+    match f {
+        Form::Ten => false,
+        Form::Twelve => false,
+        Form::Sixteen => false,
+        Form::ThirtyTwo => true,
+    }
+}
+
 // What the command asks, of bytes that are as many as its form has.
 fn parsed(o: Operation, f: Form, c: &[u8]) -> Command
     requires { ⌜ length (now c) ≡ layoutOf f .bytes ⌝ }
     ensures { λ r. ⌜ r ≡ fields o f (now (c .entry)) ⌝ }
 {
     let l = laid_out(f);
-    // ..
+    let protect = l.protect;
+    let protects = c[protect];
+    let address = words::read_at(c, l.address, l.addressed);
+    let length = words::read_at(c, l.length, l.lengthened);
+    if is_long(f) {
+        return Command {
+            operation: o,
+            long: true,
+            code: protects / 32,
+            check: protects / 2 % 4,
+            address,
+            length,
+            tag: words::read4(c, 20),
+            application: words::read2(c, 24),
+            mask: words::read2(c, 26),
+        };
+    }
+    Command {
+        operation: o,
+        long: false,
+        code: protects / 32,
+        check: protects / 2 % 4,
+        address,
+        length,
+        tag: 0,
+        application: 0,
+        mask: 0,
+    }
 }
 
 // A command of a known operation and form.
 fn decoded_as(o: Operation, f: Form, c: &[u8]) -> Decoded
     ensures { λ r. ⌜ r ≡ decodeAs o f (now (c .entry)) ⌝ }
 {
-    // ..
+    let l = laid_out(f);
+    if c.len() != l.bytes {
+        return Decoded::Refused(Answer::CommandLength);
+    }
+    if is_long(f) {
+        if c[7] != 0x18 {
+            return Decoded::Refused(Answer::Field);
+        }
+    }
+    Decoded::Served(parsed(o, f, c))
 }
 
 // What a command's bytes ask, or the refusal: any bytes, from none on.
-pub fn decoded(c: &[u8]) -> Decoded
+pub fn decoded_from(c: &[u8]) -> Decoded
     ensures { λ r. ⌜ r ≡ decode (now (c .entry)) ⌝ }
 {
-    // ..
+    match recognised(c) {
+        Named::Known(o, f) => decoded_as(o, f, c),
+        Named::Unknown(a) => Decoded::Refused(a),
+    }
 }

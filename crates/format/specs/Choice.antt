@@ -1,6 +1,6 @@
 -- "From SPT, PROTECT, FMTPINFO and usage (0-7, 0-1, 0-3, 0-7; outside these 6), after 002": its table 9, row by row.
 use Prim.Native.Nat.{ℕ}
-use mathlib.Core.Bool.{Bool, true, false, _&&_, _||_, cond}
+use mathlib.Core.Bool.{Bool, true, false, not, _&&_, _||_, cond}
 use mathlib.Core.List.{List, [], _∷_}
 use lib.Dec.{eqb, leb, ltb}
 use Rattle.answer.specs.declared.Answer.{Answer}
@@ -8,16 +8,16 @@ use Rattle.answer.specs.declared.Answer.the-variants.{Good, Field, Parameter}
 use Rattle.format.specs.declared.Choice.{Choice}
 
 -- an entry of the table: any value, one of some values, or any above a value
-data Entry : Type 0 where
+pub data Entry : Type 0 where
   any : Entry
   only : List ℕ → Entry
   above : ℕ → Entry
 
-abbrev oneOf : List ℕ → ℕ → Bool
+abbrev pub oneOf : List ℕ → ℕ → Bool
 oneOf [] n = false
 oneOf (v ∷ vs) n = eqb n v || oneOf vs n
 
-abbrev meets : Entry → ℕ → Bool
+abbrev pub meets : Entry → ℕ → Bool
 meets any n = true
 meets (only vs) n = oneOf vs n
 meets (above v) n = ltb v n
@@ -30,17 +30,17 @@ pub record Row : Type 0 where
   pub gives : Choice
 
 -- "Answer 0 comes with the type; a refusal comes with type 0."
-abbrev formatted : ℕ → Choice
+abbrev pub formatted : ℕ → Choice
 formatted t = record { answer = Good; kind = t }
 
 -- "Illegal": in the command, or in the parameter list
-abbrev illegal : Answer → Choice
+abbrev pub illegal : Answer → Choice
 illegal a = record { answer = a; kind = 0 }
 
-abbrev row : Entry → Entry → Entry → Entry → Choice → Row
+abbrev pub row : Entry → Entry → Entry → Entry → Choice → Row
 row s p f u g = record { spt = s; protect = p; fmtpinfo = f; usage = u; gives = g }
 
-abbrev is : ℕ → Entry
+abbrev pub is : ℕ → Entry
 is n = only (n ∷ [])
 
 -- | SPT | PROTECT | FMTPINFO | usage | |
@@ -71,3 +71,24 @@ look (r ∷ rs) s p f u =
 
 unfoldable pub choiceOf : ℕ → ℕ → ℕ → ℕ → Choice
 choiceOf s p f u = cond (leb s 7 && (leb p 1 && (leb f 3 && leb u 7))) (look table9 s p f u) (illegal Field)
+
+-- The paper's own sentences, which `proofs/Sentences.antt` shows to choose the same.
+-- "type .. for usage .., else 12"
+abbrev pub byUsage : ℕ → ℕ → ℕ → Choice
+byUsage u wanted t = cond (eqb u wanted) (formatted t) (illegal Parameter)
+
+-- PROTECT is 1 and SPT is 0, 1 or 3
+abbrev pub supports : ℕ → ℕ → Bool
+supports p s = not (eqb p 0) && oneOf (0 ∷ 1 ∷ 3 ∷ []) s
+
+-- "FMTPINFO 00b gives type 0 for usage 0, else 12; 01b gives 6; 10b and 11b give 6 if PROTECT is 0 or SPT is neither 0, 1 nor
+-- 3. Otherwise 10b gives type 1 for usage 0, else 12. 11b: SPT 0 gives 6; SPT 1 gives type 2 for usage 0, else 12; SPT 3
+-- gives type 3 for usage 1, else 12."
+unfoldable pub sentences : ℕ → ℕ → ℕ → ℕ → Choice
+sentences s p f u =
+    cond (eqb f 0b00) (byUsage u 0 0)
+    (cond (eqb f 0b01) (illegal Field)
+    (cond (not (supports p s)) (illegal Field)
+    (cond (eqb f 0b10) (byUsage u 0 1)
+    (cond (eqb s 0) (illegal Field)
+    (cond (eqb s 1) (byUsage u 0 2) (byUsage u 1 3))))))

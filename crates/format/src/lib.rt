@@ -1,8 +1,12 @@
 // The format choice, and filling a fresh segment.
 ghost use mathlib.Core.Path.{_≡_};
-ghost use Rattle.format.specs.Choice.{choiceOf};
-ghost use Rattle.format.specs.Fresh.{filled, filledOf};
-
+ghost use mathlib.Core.Bool.{_&&_};
+ghost use Prim.Native.Nat.{_*_, _+_};
+ghost use lib.Dec.{leb};
+ghost use lib.ListN.{length, replicate};
+ghost use Rattle.segment.specs.Segment.{Segment, lengthOf};
+ghost use Rattle.format.specs.Choice.{choiceOf, sentences, supports, byUsage, formatted, illegal};
+ghost use Rattle.format.specs.Fresh.{filled, filledOf, freshInterval, freshIntervals};
 use answer::Answer;
 use segment::Description;
 
@@ -12,16 +16,146 @@ pub struct Choice {
     pub kind: u64,
 }
 
+fn refused(a: Answer) -> Choice
+    ensures { λ r. ⌜ r ≡ illegal a ⌝ }
+{
+    Choice { answer: a, kind: 0 }
+}
+
+// A type that one usage alone gives.
+fn by_usage(usage: u64, wanted: u64, kind: u64) -> Choice
+    ensures { λ r. ⌜ r ≡ byUsage usage wanted kind ⌝ }
+{
+    if usage == wanted {
+        return Choice {
+            answer: Answer::Good,
+            kind: kind,
+        };
+    }
+    refused(Answer::Parameter)
+}
+
+fn supported(protect: u64, spt: u64) -> bool
+    ensures { λ r. ⌜ r ≡ supports protect spt ⌝ }
+{
+    if protect == 0 {
+        return false;
+    }
+    if spt == 0 {
+        return true;
+    }
+    if spt == 1 {
+        return true;
+    }
+    if spt == 3 {
+        return true;
+    }
+    false
+}
+
+fn in_range(spt: u64, protect: u64, fmtpinfo: u64, usage: u64) -> bool
+    ensures { λ r. ⌜ r ≡ (leb spt 7 && (leb protect 1 && (leb fmtpinfo 3 && leb usage 7))) ⌝ }
+{
+    if 7 < spt {
+        return false;
+    }
+    if 1 < protect {
+        return false;
+    }
+    if 3 < fmtpinfo {
+        return false;
+    }
+    if 7 < usage {
+        return false;
+    }
+    true
+}
+
+fn by_sentences(spt: u64, protect: u64, fmtpinfo: u64, usage: u64) -> Choice
+    ensures { λ r. ⌜ r ≡ sentences spt protect fmtpinfo usage ⌝ }
+{
+    if fmtpinfo == 0 {
+        return by_usage(usage, 0, 0);
+    }
+    if fmtpinfo == 1 {
+        return refused(Answer::Field);
+    }
+    if !supported(protect, spt) {
+        return refused(Answer::Field);
+    }
+    if fmtpinfo == 2 {
+        return by_usage(usage, 0, 1);
+    }
+    if spt == 0 {
+        return refused(Answer::Field);
+    }
+    if spt == 1 {
+        return by_usage(usage, 0, 2);
+    }
+    by_usage(usage, 1, 3)
+}
+
 // The type that a FORMAT UNIT command asks for. Any numbers.
 pub fn choose(spt: u64, protect: u64, fmtpinfo: u64, usage: u64) -> Choice
     ensures { λ r. ⌜ r ≡ choiceOf spt protect fmtpinfo usage ⌝ }
 {
-    // ..
+    if in_range(spt, protect, fmtpinfo, usage) {
+        return by_sentences(spt, protect, fmtpinfo, usage);
+    }
+    refused(Answer::Field)
+}
+
+// Makes every byte of `d` the byte `b`.
+fn fill_with(d: &mut [u8], b: u8)
+    ensures { λ _. ⌜ now (d .exit) ≡ replicate (length (now (d .entry))) b ⌝ }
+{
+    let mut i: usize = 0;
+    while i < d.len() {
+        d[i] = b;
+        i += 1;
+    }
+}
+
+// Makes `d` a fresh interval of `size` data bytes: data zero, every field byte FFh.
+fn fill_interval(d: &mut [u8], size: usize)
+    requires { ⌜ size + 8 ≡ length (now d) ⌝ }
+    ensures { λ _. ⌜ now (d .exit) ≡ freshInterval size ⌝ }
+{
+    fill_with(d, 0);
+    fill_with(&mut d[size..], 0xFF);
+}
+
+// Makes `d` `count` fresh intervals.
+fn fill_intervals(d: &mut [u8], size: usize, count: usize)
+    requires { ⌜ count * (size + 8) ≡ length (now d) ⌝ }
+    ensures { λ _. ⌜ now (d .exit) ≡ freshIntervals size count ⌝ }
+{
+    let mut left = count;
+    let mut at: usize = 0;
+    while 0 < left {
+        let end = at + (size + 8);
+        fill_interval(&mut d[at..end], size);
+        at = end;
+        left -= 1;
+    }
 }
 
 // Fills the segment: data zero, every field byte FFh.
 pub fn fill(d: Description, segment: &mut [u8]) -> Answer
     ensures { λ r. ⌜ filled r (now (segment .exit)) ≡ filledOf d (now (segment .entry)) ⌝ }
 {
-    // ..
+    if !segment::fit(d) {
+        return Answer::Description;
+    }
+    if segment.len() != segment::length(d) {
+        return Answer::Segment;
+    }
+    if d.kind == 0 {
+        fill_with(segment, 0);
+        return Answer::Good;
+    }
+    let size = segment::size(d);
+    let count = d.count as usize * segment::intervals(d);
+    fill_intervals(segment, size, count);
+    Answer::Good
 }

@@ -27,7 +27,7 @@ returns-6 : tie.Need-returns-6
 returns-6 c = sym (not-segment _ (λ s. omega arith))
 
 returns-7 : tie.Need-returns-7
-returns-7 c = sym (not-segment _ (λ s. c .if8 .taken (s .plain (c .before .if7 .taken))))
+returns-7 c = sym (not-segment _ (λ s. c .if8 .taken (s .plain (omega arith))))
 
 returns-8 : tie.Need-returns-8
 returns-8 c = sym (not-segment _ (λ s. omega arith))

@@ -3,7 +3,7 @@ use Prim.Native.Nat.{ℕ, _+_, _*_, _^_, _-_}
 use mathlib.Core.Bool.{Bool, true, false, not, _&&_, _||_, cond}
 use mathlib.Core.List.{List}
 use lib.Dec.{eqb, ltb}
-use Rattle.answer.specs.Answer.{isGood}
+use Rattle.answer.specs.Answer.{isGood, orElse}
 use Rattle.answer.specs.declared.Answer.{Answer}
 use Rattle.answer.specs.declared.Answer.the-variants as answers
 use Rattle.segment.specs.declared.Description.{Description}
@@ -14,9 +14,8 @@ use Rattle.command.specs.declared.Decoded.{Decoded}
 use Rattle.command.specs.declared.Decoded.the-variants as decoded
 use Rattle.command.specs.declared.Operation.{Operation}
 use Rattle.command.specs.declared.Operation.the-variants.{Read, Write, Verify}
-use Rattle.judge.specs.FirstOf.{orElse}
-use Rattle.transfer.specs.declared.Admitted.{Admitted}
-use Rattle.transfer.specs.declared.Admitted.the-variants.{Refused, Go}
+use Rattle.admission.specs.declared.Admitted.{Admitted}
+use Rattle.admission.specs.declared.Admitted.the-variants.{Refused, Go}
 
 -- "types 0, 1 and 3 answer 5 to every 32-byte command. Type 2 answers 5 to other commands with a non-zero code. Type 0 then
 -- answers 6 to a non-zero code."
@@ -65,10 +64,10 @@ refusal d c buffer =
     orElse (typeRules d c)
     (orElse (codeRule c) (orElse (checkRule c) (orElse (rangeRule d c) (orElse (sizeRule d c) (bufferRule d c buffer)))))
 
-abbrev admitCommand : Description → Command → ℕ → Admitted
+abbrev pub admitCommand : Description → Command → ℕ → Admitted
 admitCommand d c buffer = cond (isGood (refusal d c buffer)) (Go c) (Refused (refusal d c buffer))
 
-abbrev admitDecoded : Description → Decoded → ℕ → Admitted
+abbrev pub admitDecoded : Description → Decoded → ℕ → Admitted
 admitDecoded d (decoded.Served c) buffer = admitCommand d c buffer
 admitDecoded d (decoded.Refused a) buffer = Refused a
 

@@ -1,0 +1,16 @@
+-- `admission::code_rule`: the test decides.
+-- Assumes nothing.
+use mathlib.Core.Path.{sym, _∙_}
+use Rattle.admission.proofs.Rules.{code-over, code-fits}
+use borrow.Author.Needs.{needs}
+use Rattle.admission.proofs.code_rule.Statement.{statement}
+use Rattle.admission.proofs.code_rule.Tie as tie
+
+returns : tie.Need-returns
+returns c = sym (code-over _ (c .if1 .taken))
+
+returns-2 : tie.Need-returns-2
+returns-2 c = sym (code-fits _ (c .if1 .left))
+
+pub code-rule-spec : {M : Type 1} → statement M
+code-rule-spec = tie.close (tie.spec returns returns-2)

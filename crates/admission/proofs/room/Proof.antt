@@ -1,0 +1,45 @@
+-- `admission::room`: VERIFY has no buffer.
+-- Assumes nothing.
+use mathlib.Core.Path.{sym, ap, _∙_}
+use Rattle.admission.specs.Admission.{isVerify}
+use Rattle.admission.proofs.Rules.{room-verify, room-moved}
+use borrow.Author.Needs.{needs}
+use Rattle.admission.proofs.room.Statement.{statement}
+use Rattle.admission.proofs.room.Tie as tie
+
+enum-told : tie.Need-enum-told
+enum-told c = search needs
+
+moved-requires : tie.Need-moved-requires
+moved-requires c κs = search needs
+
+enum-told-2 : tie.Need-enum-told-2
+enum-told-2 c = search needs
+
+moved-requires-2 : tie.Need-moved-requires-2
+moved-requires-2 c κs = search needs
+
+enum-told-3 : tie.Need-enum-told-3
+enum-told-3 c = search needs
+
+returns : tie.Need-returns
+returns c = c .moved .ensures ∙ sym (room-moved _ _ (ap isVerify (c .before .enum-told .given .1)))
+
+returns-2 : tie.Need-returns-2
+returns-2 c = c .moved2 .ensures ∙ sym (room-moved _ _ (ap isVerify (c .before .enum-told2 .given .1)))
+
+returns-3 : tie.Need-returns-3
+returns-3 c = sym (room-verify _ _ (ap isVerify (c .enum-told3 .given .1)))
+
+pub room-spec : {M : Type 1} → statement M
+room-spec =
+    tie.close
+    (tie.spec
+    enum-told
+    moved-requires
+    enum-told-2
+    moved-requires-2
+    enum-told-3
+    returns
+    returns-2
+    returns-3)

@@ -1,0 +1,105 @@
+-- `blocks::strip`: the user data of one interval after the other is put in its place.
+-- Assumes nothing.
+use mathlib.Core.Path.{refl, _∙_}
+use mathlib.Core.List.{List}
+use Prim.Native.Nat.{ℕ, _+_}
+use native.Mathlib.Nat.{zero-add, le-refl, le-of-eq}
+use native.Mathlib.Omega.{arith}
+use lib.ListN.{length, take}
+use borrow.Author.Needs.{needs}
+use Rattle.words.specs.Parts.{put}
+use Rattle.blocks.specs.Blocks.{stripped}
+use Rattle.blocks.proofs.Filling.{Filling, within, room, turn, done, begin}
+use Rattle.blocks.proofs.Places.{put-all, cut}
+use Rattle.blocks.proofs.Laws.{stripped-length}
+use Rattle.blocks.proofs.strip.Statement.{statement}
+use Rattle.blocks.proofs.strip.Tie as tie
+
+abbrev Inv-loop : tie.InvT-loop
+Inv-loop d₀ s size count left₀ i₀ a₀ d left i a =
+    Filling (λ (u : ℕ) (l : List ℕ). take size l) (λ u. u) (size + 8) size (length d₀) s d₀ (put 0 (stripped size count s) d₀) left i a 0 d
+
+abbrev μ-loop : tie.MeasureT-loop
+μ-loop d₀ s size count left₀ i₀ a₀ d left i a = left
+
+loop-holds : tie.Need-loop-holds Inv-loop μ-loop
+unfolding stripped
+loop-holds c =
+    let start = c .before .before in
+    begin _ _ _ _ 0 _ _ 0 _ _ _ (start .pre .0) (rw zero-add (start .pre .1)) (le-refl _) refl (stripped-length _ _ _ (le-of-eq (start .pre .0)))
+
+add-m : tie.Need-add-m Inv-loop μ-loop
+add-m c = omega (arith, within (c .before .loop .inv) (c .loop-test .taken), c .before .before .before .before .good)
+
+add-e : tie.Need-add-e Inv-loop μ-loop
+add-e c = omega (arith, room (c .before .loop .inv) (c .loop-test .taken))
+
+sub-copy : tie.Need-sub-copy Inv-loop μ-loop
+sub-copy c = search needs
+
+part-copy-start : tie.Need-part-copy-start Inv-loop μ-loop
+part-copy-start c = search needs
+
+part-copy-end : tie.Need-part-copy-end Inv-loop μ-loop
+part-copy-end c = room (c .before .loop .inv) (c .loop-test .taken)
+
+sub-copy-2 : tie.Need-sub-copy-2 Inv-loop μ-loop
+sub-copy-2 c = search needs
+
+part-copy-start-2 : tie.Need-part-copy-start-2 Inv-loop μ-loop
+part-copy-start-2 c = search needs
+
+part-copy-end-2 : tie.Need-part-copy-end-2 Inv-loop μ-loop
+part-copy-end-2 c = omega (arith, within (c .before .before .loop .inv) (c .before .loop-test .taken))
+
+copy-requires : tie.Need-copy-requires Inv-loop μ-loop
+copy-requires c κs = search needs
+
+add-i : tie.Need-add-i Inv-loop μ-loop
+add-i c = omega (arith, within (c .before .before .before .before .before .before .loop .inv) (c .before .before .before .before .before .loop-test .taken))
+
+add-i-2 : tie.Need-add-i-2 Inv-loop μ-loop
+add-i-2 c = omega (arith, within (c .before .before .before .before .before .before .loop .inv) (c .before .before .before .before .before .loop-test .taken))
+
+sub-left : tie.Need-sub-left Inv-loop μ-loop
+sub-left c = search needs
+
+loop-less : tie.Need-loop-less Inv-loop μ-loop
+loop-less c = search needs
+
+loop-again : tie.Need-loop-again Inv-loop μ-loop
+loop-again c =
+    let l = c .before .before .before .before .before .before .loop in
+    turn (l .inv) _ _ (c .before .before .before .before .before .loop-test .taken) (c .before .d .given .0) (c .before .before .copy .ensures ∙ cut (l .i) _ _) refl
+
+same-length : tie.Need-same-length Inv-loop μ-loop
+same-length c = search needs
+
+returns : tie.Need-returns Inv-loop μ-loop
+returns c =
+    let start = c .before .before .before .before in
+    done (c .before .loop .inv) (c .loop-test .left) ∙ put-all _ _ (stripped-length _ _ _ (le-of-eq (start .pre .0)) ∙ start .pre .1)
+
+pub strip-spec : {M : Type 1} → statement M
+strip-spec =
+    tie.close
+    (tie.spec
+    Inv-loop
+    μ-loop
+    loop-holds
+    add-m
+    add-e
+    sub-copy
+    part-copy-start
+    part-copy-end
+    sub-copy-2
+    part-copy-start-2
+    part-copy-end-2
+    copy-requires
+    add-i
+    add-i-2
+    sub-left
+    loop-less
+    loop-again
+    same-length
+    returns)

@@ -1,0 +1,51 @@
+-- `command::decoded_as`: each refusal denies what the form asks, and what is served has it.
+-- Assumes nothing.
+use mathlib.Core.Path.{_≡_, sym, ap, _∙_}
+use mathlib.Core.Bool.{true≢false}
+use mathlib.Core.Logic.{⊎-elim}
+use Rattle.command.specs.declared.Layout.{Layout}
+use Rattle.command.specs.declared.Decoded.the-variants.{Served}
+use native.Mathlib.Omega.{arith}
+use Rattle.command.proofs.Laws.{within, decode-length, decode-field, decode-served}
+use borrow.Author.Needs.{needs}
+use Rattle.command.proofs.decoded_as.Statement.{statement}
+use Rattle.command.proofs.decoded_as.Tie as tie
+
+bytes-of : {l m : Layout} → l ≡ m → l .bytes ≡ m .bytes
+bytes-of = ap (λ (l : Layout). l .bytes)
+
+laid-out-requires : tie.Need-laid-out-requires
+laid-out-requires c κs = search needs
+
+returns : tie.Need-returns
+returns c = sym (decode-length _ _ _ (λ e. c .if1 .taken (e ∙ sym (bytes-of (c .before .before .laid-out .ensures)))))
+
+is-long-requires : tie.Need-is-long-requires
+is-long-requires c κs = search needs
+
+shared-slice-read-if3 : tie.Need-shared-slice-read-if3
+shared-slice-read-if3 c = omega (arith, bytes-of (c .before .before .before .before .before .laid-out .ensures), within (c .before .before .before .before .before .before .before .args .f) .tags (sym (c .before .before .is-long .ensures) ∙ c .before .if2 .taken))
+
+returns-2 : tie.Need-returns-2
+returns-2 c = sym (decode-field _ _ _ (c .before .before .before .before .if1 .left ∙ bytes-of (c .before .before .before .before .before .before .laid-out .ensures)) (sym (c .before .before .before .is-long .ensures) ∙ c .before .before .if2 .taken) (c .if3 .taken))
+
+parsed-requires : tie.Need-parsed-requires
+parsed-requires c κs = c .before .before .if1 .left ∙ bytes-of (c .before .before .before .before .laid-out .ensures)
+
+returns-3 : tie.Need-returns-3
+returns-3 c =
+    ap Served (c .parsed .ensures)
+    ∙ sym (decode-served _ _ _ (c .before .before .before .if1 .left ∙ bytes-of (c .before .before .before .before .before .laid-out .ensures))
+    (λ l. ⊎-elim (λ w. w .2 .left) (λ w. absurd (true≢false (sym l ∙ sym (c .before .before .is-long .ensures) ∙ w .left))) (c .before .if2 .came)))
+
+pub decoded-as-spec : {M : Type 1} → statement M
+decoded-as-spec =
+    tie.close
+    (tie.spec
+    laid-out-requires
+    returns
+    is-long-requires
+    shared-slice-read-if3
+    returns-2
+    parsed-requires
+    returns-3)
