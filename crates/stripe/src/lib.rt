@@ -1,15 +1,9 @@
 // Parity of up to sixteen members, rebuilding a lost part, correcting parity.
 ghost use mathlib.Core.Path.{_≡_};
-<<<<<<< HEAD
-ghost use Prim.Native.Nat.{_*_};
-ghost use lib.ListN.{length};
-ghost use Rattle.stripe.specs.Stripe.{xorParts, striped, madeOf, restoredOf, mendedOf};
-=======
 ghost use Prim.Native.Nat.{_+_, _*_, _≤_, _<_};
 ghost use lib.ListN.{length, take, drop, replicate};
 ghost use Rattle.stripe.specs.Stretch.{strided, joined};
 ghost use Rattle.stripe.specs.Stripe.{rebuiltOf, correctedOf, striped, madeOf, restoredOf, mendedOf};
->>>>>>> stripe
 use answer::Answer;
 use segment::Description;
 
