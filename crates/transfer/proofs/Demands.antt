@@ -20,6 +20,7 @@ use Rattle.command.specs.declared.Command.{Command}
 use Rattle.command.specs.declared.Decoded.the-variants.{Served}
 use Rattle.command.specs.declared.Operation.{Operation}
 use Rattle.command.specs.declared.Operation.the-variants.{Read, Write, Verify}
+use Rattle.words.proofs.Parts.{put-length}
 use Rattle.blocks.specs.Blocks.{stripped, storedBlocks}
 use Rattle.blocks.proofs.Laws.{blocks-length, blocks-read}
 use Rattle.blocks.proofs.Places.{put-before, put-there, put-behind}
@@ -102,3 +103,32 @@ module _ (d : Description) (segment command buffer : List ℕ) where
           → (executedAs x d segment buffer .segment ≡ segment) × (executedAs x d segment buffer .buffer ≡ buffer)
       by (Refused a) w = (refl, refl)
       by (Go c) w = refused-for (judged d c segment buffer) d c segment buffer (c .operation) w
+
+  module _ (c : Command) (served : decode command ≡ Served c) where
+    admitted-settled : Settled c (admitted d (length segment) command (length buffer))
+    unfolding admitted
+    admitted-settled =
+        rw served
+        (settled (not (isSegment d)) (not (eqb (length segment) (lengthOf d))) (isGood (refusal d c (length buffer))) c (refusal d c (length buffer)) refl)
+
+    -- what holds where nothing was done, and of a transfer that was admitted, holds of the command's outcome
+    pub served-outcome : (P : Outcome → Type 0) → ((a : Answer) → isGood a ≡ false → P (outcome a segment buffer))
+        → (Ready d c (length segment) (length buffer) → P (performed d c segment buffer)) → P (executed d segment command buffer)
+    unfolding executed
+    served-outcome P none some = by (admitted d (length segment) command (length buffer)) refl admitted-settled
+      where
+        by : (x : Admitted) → admitted d (length segment) command (length buffer) ≡ x → Settled c x → P (executedAs x d segment buffer)
+        by (Refused a) e s = none a s
+        by (Go k) e s = rw s (some (rw s at (admitted-ready d (length segment) command (length buffer) k e)))
+
+    -- "A READ or VERIFY never changes the segment."
+    pub read-or-verify-leaves-segment : (c .operation ≡ Write → ⊥) → executed d segment command buffer .segment ≡ segment
+    unfolding performed
+    read-or-verify-leaves-segment n =
+        served-outcome (λ o. o .segment ≡ segment) (λ a g. refl) (λ r. segment-for (judged d c segment buffer) d c segment buffer (c .operation) n)
+
+    -- the buffer is a READ's answer alone
+    pub write-or-verify-leaves-buffer : (c .operation ≡ Read → ⊥) → executed d segment command buffer .buffer ≡ buffer
+    unfolding performed
+    write-or-verify-leaves-buffer n =
+        served-outcome (λ o. o .buffer ≡ buffer) (λ a g. refl) (λ r. buffer-for (judged d c segment buffer) d c segment buffer (c .operation) n)
