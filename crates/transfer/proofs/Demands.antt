@@ -20,7 +20,6 @@ use Rattle.command.specs.declared.Command.{Command}
 use Rattle.command.specs.declared.Decoded.the-variants.{Served}
 use Rattle.command.specs.declared.Operation.{Operation}
 use Rattle.command.specs.declared.Operation.the-variants.{Read, Write, Verify}
-use Rattle.words.proofs.Parts.{put-length}
 use Rattle.blocks.specs.Blocks.{stripped, storedBlocks}
 use Rattle.blocks.proofs.Laws.{blocks-length, blocks-read}
 use Rattle.blocks.proofs.Places.{put-before, put-there, put-behind}
@@ -31,7 +30,7 @@ use Rattle.admission.specs.Admission.{isVerify, movedOf, bufferOf, refusal, adm
 use Rattle.admission.specs.Ready.{Ready}
 use Rattle.admission.proofs.Ready.{admitted-ready}
 use Rattle.transfer.specs.Transfer.{Outcome, outcome, keep, offsetOf, spanOf, blocksOf, whole, judgedIn, judgedFor, judged, handed, received, overwritten, performedFor, performed, executedAs, executed}
-use Rattle.transfer.proofs.Shapes.{span-within, span-intervals, moved-intervals, moved-span, moved-plain-span}
+use Rattle.transfer.proofs.Stored.{Beside, beside-itself, overwritten-beside, overwritten-there, handed-back, same-blocks}
 
 in-table : (a : Answer) → numberOf a ≤ 14
 in-table answers.Good = lit≤ tt
@@ -67,6 +66,35 @@ module _ (a : Answer) (d : Description) (c : Command) (segment buffer : List ℕ
   buffer-for Read n = absurd (n refl)
   buffer-for Write n = refl
   buffer-for Verify n = refl
+
+-- ---- what a transfer's operation does
+write-for : (a : Answer) (d : Description) (c : Command) (segment buffer : List ℕ) (o : Operation) → (o ≡ Write → Beside d c segment (overwritten d c segment buffer))
+    → Beside d c segment (performedFor o a d c segment buffer .segment)
+write-for a d c segment buffer Read f = beside-itself d c segment
+write-for a d c segment buffer Write f = by (isGood a)
+  where
+    by : (g : Bool) → Beside d c segment (cond g (overwritten d c segment buffer) segment)
+    by true = f refl
+    by false = beside-itself d c segment
+write-for a d c segment buffer Verify f = beside-itself d c segment
+
+stored-for : (a : Answer) (d : Description) (c : Command) (segment buffer : List ℕ) (o : Operation) → o ≡ Write
+    → isGood (performedFor o a d c segment buffer .answer) ≡ true → performedFor o a d c segment buffer .segment ≡ overwritten d c segment buffer
+stored-for a d c segment buffer o e = rw e (λ g. rw g refl)
+
+handed-for : (a : Answer) (d : Description) (c : Command) (segment buffer : List ℕ) (o : Operation) → o ≡ Read
+    → isGood (performedFor o a d c segment buffer .answer) ≡ true → performedFor o a d c segment buffer .buffer ≡ handed d c (blocksOf d c segment)
+handed-for a d c segment buffer o e = rw e (λ g. rw g refl)
+
+-- two segments with the same blocks of the transfer
+abbrev Alike : Outcome → Outcome → Type 0
+Alike x y = (x .answer ≡ y .answer) × (x .buffer ≡ y .buffer)
+
+alike-for : (d : Description) (c : Command) (s s′ buffer : List ℕ) → blocksOf d c s ≡ blocksOf d c s′ → (o : Operation) → (o ≡ Write → ⊥)
+    → Alike (performedFor o (judgedFor o d c s buffer) d c s buffer) (performedFor o (judgedFor o d c s′ buffer) d c s′ buffer)
+alike-for d c s s′ buffer e Read n = rw e (refl, refl)
+alike-for d c s s′ buffer e Write n = absurd (n refl)
+alike-for d c s s′ buffer e Verify n = rw e (refl, refl)
 
 -- ---- what a served command's admission can be
 abbrev Settled : Command → Admitted → Type 0
@@ -132,3 +160,54 @@ module _ (d : Description) (segment command buffer : List ℕ) where
     unfolding performed
     write-or-verify-leaves-buffer n =
         served-outcome (λ o. o .buffer ≡ buffer) (λ a g. refl) (λ r. buffer-for (judged d c segment buffer) d c segment buffer (c .operation) n)
+
+    -- "On a good WRITE the transfer's own blocks of the segment are overwritten and no other"
+    pub good-write-keeps-other-blocks : Beside d c segment (executed d segment command buffer .segment)
+    unfolding performed
+    good-write-keeps-other-blocks =
+        served-outcome (λ o. Beside d c segment (o .segment)) (λ a g. beside-itself d c segment)
+        (λ r. write-for (judged d c segment buffer) d c segment buffer (c .operation) (overwritten-beside d c segment buffer r))
+
+    -- "received fields are stored as received"; with 000 they are inserted
+    pub good-write-stores : c .operation ≡ Write → isGood (executed d segment command buffer .answer) ≡ true
+        → Ready d c (length segment) (length buffer) × (blocksOf d c (executed d segment command buffer .segment) ≡ received d c buffer)
+    unfolding performed
+    good-write-stores w =
+        served-outcome
+        (λ o. isGood (o .answer) ≡ true → Ready d c (length segment) (length buffer) × (blocksOf d c (o .segment) ≡ received d c buffer))
+        (λ a b g. absurd (true≢false (sym g ∙ b)))
+        (λ r g.
+        (r,
+        ap (blocksOf d c) (stored-for (judged d c segment buffer) d c segment buffer (c .operation) w g) ∙ overwritten-there d c segment buffer r w))
+
+    -- "A good READ fills its buffer with the transfer's blocks in order"
+    pub good-read-hands-out : c .operation ≡ Read → isGood (executed d segment command buffer .answer) ≡ true
+        → executed d segment command buffer .buffer ≡ handed d c (blocksOf d c segment)
+    unfolding performed
+    good-read-hands-out w =
+        served-outcome (λ o. isGood (o .answer) ≡ true → o .buffer ≡ handed d c (blocksOf d c segment))
+        (λ a b g. absurd (true≢false (sym g ∙ b)))
+        (λ r g. handed-for (judged d c segment buffer) d c segment buffer (c .operation) w g)
+
+-- "The answer of a READ or VERIFY depends on the description, the command, the lengths and the transfer's blocks, on no other block."
+pub own-blocks-alone : (d : Description) (s s′ command buffer : List ℕ) (c : Command) → decode command ≡ Served c → (c .operation ≡ Write → ⊥)
+    → length s ≡ length s′ → blocksOf d c s ≡ blocksOf d c s′ → Alike (executed d s command buffer) (executed d s′ command buffer)
+unfolding executed performed judged
+own-blocks-alone d s s′ command buffer c served n l e =
+    rw (← l) (by (admitted d (length s) command (length buffer)) (admitted-settled d s command buffer c served))
+  where
+    by : (x : Admitted) → Settled c x → Alike (executedAs x d s buffer) (executedAs x d s′ buffer)
+    by (Refused a) t = (refl, refl)
+    by (Go k) t = rw t (alike-for d c s s′ buffer e (c .operation) n)
+
+-- "READ after a good WRITE of the same blocks gives back what was written": user data with 000, whole blocks otherwise
+pub read-after-write : (d : Description) (segment writing buffer reading out : List ℕ) (w k : Command)
+    → decode writing ≡ Served w → w .operation ≡ Write → isGood (executed d segment writing buffer .answer) ≡ true
+    → decode reading ≡ Served k → k .operation ≡ Read → k .address ≡ w .address → k .length ≡ w .length → whole d k ≡ whole d w
+    → isGood (executed d (executed d segment writing buffer .segment) reading out .answer) ≡ true
+    → executed d (executed d segment writing buffer .segment) reading out .buffer ≡ buffer
+read-after-write d segment writing buffer reading out w k sw ow gw sk ok a l f gk =
+    let stored = good-write-stores d segment writing buffer w sw ow gw in
+    let now = executed d segment writing buffer .segment in
+    good-read-hands-out d now reading out k sk ok gk
+    ∙ ap (handed d k) (same-blocks d w k now a l ∙ stored .1) ∙ handed-back d w segment buffer (stored .0) ow k l f
