@@ -85,13 +85,13 @@ onSegments =
     ∷ onM 0x28_00_0000000A_00_0001_00 (replicate 8 0) (answered 7 0 0 M (replicate 8 0))
     -- "Type 2, B 8, e 1, ATO 0, WRITE (32) code 000, first tag FFFFFFFFh, data zero: references FFFFFFFFh, then 00000000h."
     ∷ execute
-      (record {
-        description = record { kind = 2; block = 8; exponent = 1; first = 0; count = 1; ato = 0 };
-        segment = replicate 24 0xFF;
-        command = bytes 32 0x7F_00_00000000_00_18_000B_00_00_0000000000000000_FFFFFFFF_0000_0000_00000001;
-        buffer = replicate 8 0;
-        outcome = answered 0 0 0 (bytes 24 0x00000000_0000_0000_FFFFFFFF_00000000_0000_0000_00000000) (replicate 8 0);
-      })
+    (record {
+      description = record { kind = 2; block = 8; exponent = 1; first = 0; count = 1; ato = 0 };
+      segment = replicate 24 0xFF;
+      command = bytes 32 0x7F_00_00000000_00_18_000B_00_00_0000000000000000_FFFFFFFF_0000_0000_00000001;
+      buffer = replicate 8 0;
+      outcome = answered 0 0 0 (bytes 24 0x00000000_0000_0000_FFFFFFFF_00000000_0000_0000_00000000) (replicate 8 0);
+    })
     ∷ []
 
 unfoldable pub cases : List Case

@@ -1,15 +1,15 @@
 -- Demands 1 and 2: what holds of every command's outcome, `executed`.
 -- Assumes nothing.
-use mathlib.Core.Path.{_≡_, refl, sym, ap, ap₂, _∙_}
-use mathlib.Core.Bool.{Bool, true, false, not, _||_, cond, true≢false}
+use mathlib.Core.Path.{_≡_, refl, sym, ap, _∙_}
+use mathlib.Core.Logic.{_↔_}
+use mathlib.Core.Bool.{Bool, true, false, not, cond, true≢false}
 use mathlib.Core.List.{List}
-use Prim.Native.Nat.{ℕ, _+_, _*_, _≤_}
-use native.Mathlib.Nat.{le-of-eq}
+use Prim.Native.Nat.{ℕ, _+_, _*_, _%_, _^_, _≤_, _<_}
+use native.Mathlib.Nat.{mod-lt}
 use native.Mathlib.Omega.{arith}
-use borrow.Author.Tests.{eqb-true, eqb-false}
-use lib.Dec.{eqb, lit≤}
-use lib.ListN.{length, take, drop, length-append, take-append-drop}
-use lib.Seq.{take-all}
+use lib.Dec.{eqb, lit<, lit≤}
+use lib.ListN.{length}
+use Rattle.words.specs.Parts.{Bytes}
 use Rattle.answer.specs.Answer.{numberOf, isGood}
 use Rattle.answer.specs.declared.Answer.{Answer}
 use Rattle.answer.specs.declared.Answer.the-variants as answers
@@ -17,19 +17,24 @@ use Rattle.segment.specs.declared.Description.{Description}
 use Rattle.segment.specs.Segment.{isSegment, intervalsOf, sizeOf, lengthOf}
 use Rattle.command.specs.Command.{decode}
 use Rattle.command.specs.declared.Command.{Command}
+use Rattle.command.specs.declared.Decoded.{Decoded}
 use Rattle.command.specs.declared.Decoded.the-variants.{Served}
+use Rattle.command.specs.declared.Decoded.the-variants as decoded
 use Rattle.command.specs.declared.Operation.{Operation}
 use Rattle.command.specs.declared.Operation.the-variants.{Read, Write, Verify}
-use Rattle.blocks.specs.Blocks.{stripped, storedBlocks}
-use Rattle.blocks.proofs.Laws.{blocks-length, blocks-read}
-use Rattle.blocks.proofs.Places.{put-before, put-there, put-behind}
-use Rattle.checks.specs.Inserted.{marksOf}
+use Rattle.command.proofs.Laws.{served-bounded}
+use Rattle.judge.specs.FirstOf.{firstOf}
+use Rattle.judge.specs.Judge.{dataOf, fieldOf, guardWrong, applicationWrong, referenceWrong, judgeInterval, judgeBlocks}
+use Rattle.judge.proofs.PieceLaws.{Verdict}
+use Rattle.checks.specs.Checks.{rulesOf, startOf, firstTag}
 use Rattle.admission.specs.declared.Admitted.{Admitted}
 use Rattle.admission.specs.declared.Admitted.the-variants.{Refused, Go}
-use Rattle.admission.specs.Admission.{isVerify, movedOf, bufferOf, refusal, admitted}
+use Rattle.admission.specs.Admission.{refusal, admitDecoded, admitted}
 use Rattle.admission.specs.Ready.{Ready}
 use Rattle.admission.proofs.Ready.{admitted-ready}
-use Rattle.transfer.specs.Transfer.{Outcome, outcome, keep, offsetOf, spanOf, blocksOf, whole, judgedIn, judgedFor, judged, handed, received, overwritten, performedFor, performed, executedAs, executed}
+use Rattle.transfer.specs.Transfer.{Outcome, outcome, blocksOf, whole, judgedIn, judgedFor, judged, handed, received, overwritten, performedFor, performed, executedAs, executed}
+use Rattle.transfer.proofs.Checked.{underCheck, checkedBlocks, intervalAt, placeAt, verdictAt, FirstWrongInterval}
+use Rattle.transfer.proofs.Wrong.{blocks-good, blocks-wrong, interval-verdict}
 use Rattle.transfer.proofs.Stored.{Beside, beside-itself, overwritten-beside, overwritten-there, handed-back, same-blocks}
 
 in-table : (a : Answer) → numberOf a ≤ 14
@@ -176,9 +181,10 @@ module _ (d : Description) (segment command buffer : List ℕ) where
         served-outcome
         (λ o. isGood (o .answer) ≡ true → Ready d c (length segment) (length buffer) × (blocksOf d c (o .segment) ≡ received d c buffer))
         (λ a b g. absurd (true≢false (sym g ∙ b)))
-        (λ r g.
-        (r,
-        ap (blocksOf d c) (stored-for (judged d c segment buffer) d c segment buffer (c .operation) w g) ∙ overwritten-there d c segment buffer r w))
+        (λ r g. (
+          r,
+          ap (blocksOf d c) (stored-for (judged d c segment buffer) d c segment buffer (c .operation) w g) ∙ overwritten-there d c segment buffer r w,
+        ))
 
     -- "A good READ fills its buffer with the transfer's blocks in order"
     pub good-read-hands-out : c .operation ≡ Read → isGood (executed d segment command buffer .answer) ≡ true
@@ -200,14 +206,109 @@ own-blocks-alone d s s′ command buffer c served n l e =
     by (Refused a) t = (refl, refl)
     by (Go k) t = rw t (alike-for d c s s′ buffer e (c .operation) n)
 
--- "READ after a good WRITE of the same blocks gives back what was written": user data with 000, whole blocks otherwise
-pub read-after-write : (d : Description) (segment writing buffer reading out : List ℕ) (w k : Command)
-    → decode writing ≡ Served w → w .operation ≡ Write → isGood (executed d segment writing buffer .answer) ≡ true
-    → decode reading ≡ Served k → k .operation ≡ Read → k .address ≡ w .address → k .length ≡ w .length → whole d k ≡ whole d w
-    → isGood (executed d (executed d segment writing buffer .segment) reading out .answer) ≡ true
-    → executed d (executed d segment writing buffer .segment) reading out .buffer ≡ buffer
-read-after-write d segment writing buffer reading out w k sw ow gw sk ok a l f gk =
-    let stored = good-write-stores d segment writing buffer w sw ow gw in
-    let now = executed d segment writing buffer .segment in
-    good-read-hands-out d now reading out k sk ok gk
-    ∙ ap (handed d k) (same-blocks d w k now a l ∙ stored .1) ∙ handed-back d w segment buffer (stored .0) ow k l f
+-- a READ after a WRITE of the same blocks, both good
+module _ (d : Description) (segment writing buffer reading out : List ℕ) (w k : Command)
+    (writes : decode writing ≡ Served w) (is-write : w .operation ≡ Write) (good-write : isGood (executed d segment writing buffer .answer) ≡ true)
+    (reads : decode reading ≡ Served k) (is-read : k .operation ≡ Read)
+    (good-read : isGood (executed d (executed d segment writing buffer .segment) reading out .answer) ≡ true)
+    (address : k .address ≡ w .address) (long : k .length ≡ w .length) where
+  abbrev now : List ℕ
+  now = executed d segment writing buffer .segment
+
+  stored : Ready d w (length segment) (length buffer) × (blocksOf d w now ≡ received d w buffer)
+  stored = good-write-stores d segment writing buffer w writes is-write good-write
+
+  -- it hands out what was stored
+  pub read-gives-what-was-stored : executed d now reading out .buffer ≡ handed d k (received d w buffer)
+  read-gives-what-was-stored =
+      good-read-hands-out d now reading out k reads is-read good-read ∙ ap (handed d k) (same-blocks d w k now address long ∙ stored .1)
+
+  -- and gives back what was written: the user data where both are 000, the whole blocks where neither is
+  pub read-after-write : whole d k ≡ whole d w → executed d now reading out .buffer ≡ buffer
+  read-after-write same = read-gives-what-was-stored ∙ handed-back d w segment buffer (stored .0) is-write k long same
+
+-- ---- demand 2: a transfer otherwise in order is refused exactly when an interval under check is wrong
+
+-- what goes on was served
+served-when : (c : Command) (d : Description) (b : ℕ) (p q : Bool) (x : Decoded)
+    → cond p (Refused answers.Description) (cond q (Refused answers.Segment) (admitDecoded d x b)) ≡ Go c → x ≡ Served c
+served-when c d b true q x e = let z : _≡_ {A = ℕ} 0 1 = cc in absurd (omega arith)
+served-when c d b false true x e = let z : _≡_ {A = ℕ} 0 1 = cc in absurd (omega arith)
+served-when c d b false false (decoded.Refused a) e = let z : _≡_ {A = ℕ} 0 1 = cc in absurd (omega arith)
+served-when c d b false false (Served k) e = ap Served (by (isGood (refusal d k b)) e)
+  where
+    by : (g : Bool) → cond g (Go k) (Refused (refusal d k b)) ≡ Go c → k ≡ c
+    by true f = cc
+    by false f = let z : _≡_ {A = ℕ} 0 1 = cc in absurd (omega arith)
+
+-- the first tag is one of four bytes
+tag-small : (d : Description) (c : Command) → c .tag < 2 ^ 32 → firstTag d c < 2 ^ 32
+unfolding firstTag
+tag-small d c h = by (eqb (d .kind) 1)
+  where
+    by : (b : Bool) → cond b (c .address % 2 ^ 32) (c .tag) < 2 ^ 32
+    by true = mod-lt (c .address) (lit< tt)
+    by false = h
+
+-- what is judged: the blocks under check, none where nothing is
+pick-none : (b : Bool) (d : Description) (c : Command) (s : List ℕ)
+    → cond b answers.Good (judgeBlocks (rulesOf d c) (c .length) (startOf d c) s) ≡ judgeBlocks (rulesOf d c) (cond b 0 (c .length)) (startOf d c) s
+unfolding judgeBlocks firstOf
+pick-none true d c s = refl
+pick-none false d c s = refl
+
+judged-for : (d : Description) (c : Command) (segment buffer : List ℕ) (o : Operation)
+    → judgedFor o d c segment buffer ≡ judgeBlocks (rulesOf d c) (checkedBlocks o d c) (startOf d c) (underCheck o d c segment buffer)
+unfolding judgedIn judgeBlocks firstOf
+judged-for d c segment buffer Read = pick-none (eqb (d .kind) 0) d c (blocksOf d c segment)
+judged-for d c segment buffer Verify = pick-none (eqb (d .kind) 0) d c (blocksOf d c segment)
+judged-for d c segment buffer Write = by (eqb (c .code) 0)
+  where
+    by : (z : Bool) → cond z answers.Good (judgedIn d c buffer)
+        ≡ judgeBlocks (rulesOf d c) (cond z 0 (cond (eqb (d .kind) 0) 0 (c .length))) (startOf d c) buffer
+    by true = refl
+    by false = pick-none (eqb (d .kind) 0) d c buffer
+
+module _ (d : Description) (segment command buffer : List ℕ) (c : Command)
+    (bytes : Bytes command) (in-order : admitted d (length segment) command (length buffer) ≡ Go c) where
+  abbrev checked : List ℕ
+  checked = underCheck (c .operation) d c segment buffer
+
+  abbrev count : ℕ
+  count = checkedBlocks (c .operation) d c
+
+  small : firstTag d c < 2 ^ 32
+  unfolding admitted
+  small =
+      tag-small d c
+      (served-bounded command c
+      (served-when c d (length buffer) (not (isSegment d)) (not (eqb (length segment) (lengthOf d))) (decode command) in-order) bytes .tag)
+
+  answer-for : (o : Operation) (a : Answer) → performedFor o a d c segment buffer .answer ≡ a
+  answer-for Read a = refl
+  answer-for Write a = refl
+  answer-for Verify a = refl
+
+  answer-is : executed d segment command buffer .answer ≡ judgeBlocks (rulesOf d c) count (startOf d c) checked
+  unfolding executed performed judged
+  answer-is = rw in-order (answer-for (c .operation) (judged d c segment buffer) ∙ judged-for d c segment buffer (c .operation))
+
+  -- "a transfer with no wrong interval is good", and no other is
+  pub good-exactly-when-all-right : (executed d segment command buffer .answer ≡ answers.Good)
+      ↔ ((j i : ℕ) → j < count → i < intervalsOf d → verdictAt d c checked j i ≡ answers.Good)
+  good-exactly-when-all-right = rw answer-is (blocks-good d c checked small count)
+
+  -- 8, 9 or 10 with the first wrong interval's address and place: all before it are right
+  pub refused-names-the-first-wrong : isGood (executed d segment command buffer .answer) ≡ false
+      → FirstWrongInterval d c count checked (executed d segment command buffer .answer)
+  refused-names-the-first-wrong = rw answer-is (blocks-wrong d c checked small count)
+
+  -- "in one interval guard, application, reference": of each, what its verdict says
+  pub guard-application-reference : (j i : ℕ)
+      → let r = rulesOf d c in
+      let s = intervalAt d checked j i in
+      let f = fieldOf (sizeOf d) s in
+      Verdict (guardWrong r (dataOf (sizeOf d) s) f) (applicationWrong r f) (referenceWrong r (placeAt d c j i) f)
+      (c .address + j) (j * intervalsOf d + i) (judgeInterval r (placeAt d c j i) s)
+  unfolding rulesOf
+  guard-application-reference j i = interval-verdict (rulesOf d c) (placeAt d c j i) (intervalAt d checked j i)

@@ -1,3 +1,5 @@
 pub mod Shapes
 pub mod Stored
+pub mod Checked
+pub mod Wrong
 pub mod Demands

@@ -1,6 +1,6 @@
 -- What a WRITE stores: how many bytes, where, beside what; and what a READ of the same blocks hands back.
 -- Assumes nothing.
-use mathlib.Core.Path.{_≡_, refl, sym, ap, ap₂, _∙_}
+use mathlib.Core.Path.{_≡_, refl, sym, ap₂, _∙_}
 use mathlib.Core.Bool.{Bool, true, false, not, _||_, cond}
 use mathlib.Core.List.{List}
 use Prim.Native.Nat.{ℕ, _+_, _-_, _*_, _≤_}
@@ -9,13 +9,12 @@ use borrow.Author.Tests.{eqb-true, eqb-false}
 use lib.Dec.{eqb}
 use lib.ListN.{length, take, drop}
 use lib.Seq.{take-all}
-use Rattle.words.specs.Parts.{put}
 use Rattle.words.proofs.Parts.{put-length}
 use Rattle.segment.specs.declared.Description.{Description}
 use Rattle.segment.specs.Segment.{intervalsOf, sizeOf, storedOf}
 use Rattle.command.specs.declared.Command.{Command}
 use Rattle.command.specs.declared.Operation.{Operation}
-use Rattle.command.specs.declared.Operation.the-variants.{Read, Write, Verify}
+use Rattle.command.specs.declared.Operation.the-variants.{Write}
 use Rattle.blocks.specs.Blocks.{stripped, storedBlocks}
 use Rattle.blocks.proofs.Laws.{blocks-length, blocks-read}
 use Rattle.blocks.proofs.Places.{put-before, put-there, put-behind}
@@ -80,7 +79,7 @@ module _ (d : Description) (c : Command) (segment buffer : List ℕ) (r : Ready 
     where
       by : (p z : Bool) → eqb (d .kind) 0 ≡ p → eqb (c .code) 0 ≡ z
           → cond (p || not z) (cond (p || not z) buffer (storedBlocks (sizeOf d) (intervalsOf d) (c .length) (marksOf d c) buffer))
-            (stripped (sizeOf d) (c .length * intervalsOf d) (cond (p || not z) buffer (storedBlocks (sizeOf d) (intervalsOf d) (c .length) (marksOf d c) buffer)))
+          (stripped (sizeOf d) (c .length * intervalsOf d) (cond (p || not z) buffer (storedBlocks (sizeOf d) (intervalsOf d) (c .length) (marksOf d c) buffer)))
           ≡ buffer
       by true z p q = refl
       by false false p q = refl
