@@ -54,42 +54,45 @@ in-table answers.Parameter = lit≤ tt
 in-table answers.Listing = lit≤ tt
 in-table answers.Size = lit≤ tt
 
--- ---- what an operation leaves alone
+-- ---- what an operation leaves alone, and what it does
 module _ (a : Answer) (d : Description) (c : Command) (segment buffer : List ℕ) where
-  refused-for : (o : Operation) → isGood (performedFor o a d c segment buffer .answer) ≡ false
-      → (performedFor o a d c segment buffer .segment ≡ segment) × (performedFor o a d c segment buffer .buffer ≡ buffer)
+  abbrev doing : Operation → Outcome
+  doing o = performedFor o a d c segment buffer
+
+  refused-for : (o : Operation) → isGood (doing o .answer) ≡ false → (doing o .segment ≡ segment) × (doing o .buffer ≡ buffer)
   refused-for Read w = (refl, rw w refl)
   refused-for Write w = (rw w refl, refl)
   refused-for Verify w = (refl, refl)
 
-  segment-for : (o : Operation) → (o ≡ Write → ⊥) → performedFor o a d c segment buffer .segment ≡ segment
+  segment-for : (o : Operation) → (o ≡ Write → ⊥) → doing o .segment ≡ segment
   segment-for Read n = refl
   segment-for Write n = absurd (n refl)
   segment-for Verify n = refl
 
-  buffer-for : (o : Operation) → (o ≡ Read → ⊥) → performedFor o a d c segment buffer .buffer ≡ buffer
+  buffer-for : (o : Operation) → (o ≡ Read → ⊥) → doing o .buffer ≡ buffer
   buffer-for Read n = absurd (n refl)
   buffer-for Write n = refl
   buffer-for Verify n = refl
 
--- ---- what a transfer's operation does
-write-for : (a : Answer) (d : Description) (c : Command) (segment buffer : List ℕ) (o : Operation) → (o ≡ Write → Beside d c segment (overwritten d c segment buffer))
-    → Beside d c segment (performedFor o a d c segment buffer .segment)
-write-for a d c segment buffer Read f = beside-itself d c segment
-write-for a d c segment buffer Write f = by (isGood a)
-  where
-    by : (g : Bool) → Beside d c segment (cond g (overwritten d c segment buffer) segment)
-    by true = f refl
-    by false = beside-itself d c segment
-write-for a d c segment buffer Verify f = beside-itself d c segment
+  beside-for : (o : Operation) → (o ≡ Write → Beside d c segment (overwritten d c segment buffer)) → Beside d c segment (doing o .segment)
+  beside-for Read f = beside-itself d c segment
+  beside-for Verify f = beside-itself d c segment
+  beside-for Write f = by (isGood a)
+    where
+      by : (g : Bool) → Beside d c segment (cond g (overwritten d c segment buffer) segment)
+      by true = f refl
+      by false = beside-itself d c segment
 
-stored-for : (a : Answer) (d : Description) (c : Command) (segment buffer : List ℕ) (o : Operation) → o ≡ Write
-    → isGood (performedFor o a d c segment buffer .answer) ≡ true → performedFor o a d c segment buffer .segment ≡ overwritten d c segment buffer
-stored-for a d c segment buffer o e = rw e (λ g. rw g refl)
+  stored-for : (o : Operation) → o ≡ Write → isGood (doing o .answer) ≡ true → doing o .segment ≡ overwritten d c segment buffer
+  stored-for o e = rw e (λ g. rw g refl)
 
-handed-for : (a : Answer) (d : Description) (c : Command) (segment buffer : List ℕ) (o : Operation) → o ≡ Read
-    → isGood (performedFor o a d c segment buffer .answer) ≡ true → performedFor o a d c segment buffer .buffer ≡ handed d c (blocksOf d c segment)
-handed-for a d c segment buffer o e = rw e (λ g. rw g refl)
+  handed-for : (o : Operation) → o ≡ Read → isGood (doing o .answer) ≡ true → doing o .buffer ≡ handed d c (blocksOf d c segment)
+  handed-for o e = rw e (λ g. rw g refl)
+
+  answer-for : (o : Operation) → doing o .answer ≡ a
+  answer-for Read = refl
+  answer-for Write = refl
+  answer-for Verify = refl
 
 -- two segments with the same blocks of the transfer
 abbrev Alike : Outcome → Outcome → Type 0
@@ -171,7 +174,7 @@ module _ (d : Description) (segment command buffer : List ℕ) where
     unfolding performed
     good-write-keeps-other-blocks =
         served-outcome (λ o. Beside d c segment (o .segment)) (λ a g. beside-itself d c segment)
-        (λ r. write-for (judged d c segment buffer) d c segment buffer (c .operation) (overwritten-beside d c segment buffer r))
+        (λ r. beside-for (judged d c segment buffer) d c segment buffer (c .operation) (overwritten-beside d c segment buffer r))
 
     -- "received fields are stored as received"; with 000 they are inserted
     pub good-write-stores : c .operation ≡ Write → isGood (executed d segment command buffer .answer) ≡ true
@@ -284,14 +287,9 @@ module _ (d : Description) (segment command buffer : List ℕ) (c : Command)
       (served-bounded command c
       (served-when c d (length buffer) (not (isSegment d)) (not (eqb (length segment) (lengthOf d))) (decode command) in-order) bytes .tag)
 
-  answer-for : (o : Operation) (a : Answer) → performedFor o a d c segment buffer .answer ≡ a
-  answer-for Read a = refl
-  answer-for Write a = refl
-  answer-for Verify a = refl
-
   answer-is : executed d segment command buffer .answer ≡ judgeBlocks (rulesOf d c) count (startOf d c) checked
   unfolding executed performed judged
-  answer-is = rw in-order (answer-for (c .operation) (judged d c segment buffer) ∙ judged-for d c segment buffer (c .operation))
+  answer-is = rw in-order (answer-for (judged d c segment buffer) d c segment buffer (c .operation) ∙ judged-for d c segment buffer (c .operation))
 
   -- "a transfer with no wrong interval is good", and no other is
   pub good-exactly-when-all-right : (executed d segment command buffer .answer ≡ answers.Good)
