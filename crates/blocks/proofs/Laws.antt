@@ -4,8 +4,8 @@ use mathlib.Core.Path.{_≡_, refl, ap, ap₂, _∙_}
 use mathlib.Core.List.{List, [], _++_, append-nil, append-assoc}
 use Prim.Native.Nat.{ℕ, _+_, _*_, _%_, _^_, _<_, _≤_}
 use native.Mathlib.Nat.{le-trans, le-add-right}
-use lib.ListN.{length, take, length-append}
-use lib.Seq.{take-append-le, take-at, length-take-le}
+use lib.ListN.{length, take, drop, length-append}
+use lib.Seq.{take-append-le, take-at, drop-at, length-take-le}
 use Rattle.words.specs.BigEndian.{numberAt, bytes}
 use Rattle.words.specs.Parts.{Bytes}
 use Rattle.words.specs.Runs.{runs}
@@ -44,8 +44,7 @@ field-length m d = simp (length-append, bytes-length)
 pub interval-length : (size : ℕ) (m : Marks) (s : List ℕ) → size ≤ length s → length (withField size m s) ≡ size + 8
 unfolding withField
 interval-length size m s h =
-    length-append (take size s) (fieldBytes m (take size s))
-    ∙ ap₂ (λ (x y : ℕ). x + y) (length-take-le size s h) (field-length m (take size s))
+    length-append (take size s) _ ∙ ap₂ (λ (x y : ℕ). x + y) (length-take-le size s h) (field-length m _)
 
 pub block-length : (size n : ℕ) (m : Marks) (s : List ℕ) → n * size ≤ length s → length (storedBlock size n m s) ≡ n * (size + 8)
 unfolding storedBlock
@@ -68,7 +67,7 @@ field-bytes m d =
 
 pub interval-bytes : (size : ℕ) (m : Marks) (s : List ℕ) → Bytes s → Bytes (withField size m s)
 unfolding withField
-interval-bytes size m s p = append-bytes (take size s) _ (take-bytes size s p) (field-bytes m (take size s))
+interval-bytes size m s p = append-bytes (take size s) _ (take-bytes size s p) (field-bytes m _)
 
 pub block-bytes : (size n : ℕ) (m : Marks) (s : List ℕ) → Bytes s → Bytes (storedBlock size n m s)
 unfolding storedBlock
@@ -78,7 +77,12 @@ pub blocks-bytes : (size n k : ℕ) (m : Marks) (s : List ℕ) → Bytes s → B
 unfolding storedBlocks
 blocks-bytes size n k m s p = runs-bytes (storedBlock size n) (later n) (n * size) (block-bytes size n) k m s p
 
--- ---- what lies behind the user data does not count
+-- ---- what lies behind the intervals' own bytes does not count
+pub stripped-behind : (size k : ℕ) (s r : List ℕ) → k * (size + 8) ≤ length s → stripped size k (s ++ r) ≡ stripped size k s
+unfolding stripped
+stripped-behind size k s r h =
+    runs-behind (λ (u : ℕ) (l : List ℕ). take size l) (λ u. u) (size + 8) (λ u l q e. take-append-le size l q (le-trans (le-add-right size 8) e)) k 0 s r h
+
 pub interval-behind : (size : ℕ) (m : Marks) (s r : List ℕ) → size ≤ length s → withField size m (s ++ r) ≡ withField size m s
 unfolding withField
 interval-behind size m s r h = ap (λ (l : List ℕ). l ++ fieldBytes m l) (take-append-le size s r h)
@@ -91,22 +95,35 @@ pub blocks-behind : (size n k : ℕ) (m : Marks) (s r : List ℕ) → k * (n * s
 unfolding storedBlocks
 blocks-behind size n k m s r h = runs-behind (storedBlock size n) (later n) (n * size) (block-behind size n) k m s r h
 
--- ---- what was stored reads back
-interval-read : (size : ℕ) (m : Marks) (s r : List ℕ) → size ≤ length s → take size (withField size m s ++ r) ≡ take size s
-unfolding withField
-interval-read size m s r h =
-    ap (take size) (append-assoc (take size s) (fieldBytes m (take size s)) r)
-    ∙ take-at (take size s) (fieldBytes m (take size s) ++ r) size (length-take-le size s h)
+-- ---- what was stored reads back, also where the list goes on behind it
+module _ (size : ℕ) (m : Marks) (s r : List ℕ) (h : size ≤ length s) where
+  pub interval-read-on : take size (withField size m s ++ r) ≡ take size s
+  unfolding withField
+  interval-read-on =
+      ap (take size) (append-assoc (take size s) (fieldBytes m (take size s)) r)
+      ∙ take-at (take size s) (fieldBytes m (take size s) ++ r) size (length-take-le size s h)
 
-pub block-read : (size n : ℕ) (m : Marks) (s r : List ℕ) → n * size ≤ length s → stripped size n (storedBlock size n m s ++ r) ≡ take (n * size) s
+  pub interval-field-on : drop size (withField size m s ++ r) ≡ fieldBytes m (take size s) ++ r
+  unfolding withField
+  interval-field-on =
+      ap (drop size) (append-assoc (take size s) (fieldBytes m (take size s)) r)
+      ∙ drop-at (take size s) (fieldBytes m (take size s) ++ r) size (length-take-le size s h)
+
+pub block-read-on : (size n : ℕ) (m : Marks) (s r : List ℕ) → n * size ≤ length s → stripped size n (storedBlock size n m s ++ r) ≡ take (n * size) s
 unfolding stripped storedBlock
-block-read size n m s r h = runs-read (withField size) (later 1) size (take size) (size + 8) (interval-read size) (interval-length size) n m s r h
+block-read-on size n m s r h = runs-read (withField size) (later 1) size (take size) (size + 8) (interval-read-on size) (interval-length size) n m s r h
 
-pub blocks-read : (size n k : ℕ) (m : Marks) (s r : List ℕ) → k * (n * size) ≤ length s → stripped size (k * n) (storedBlocks size n k m s ++ r) ≡ take (k * (n * size)) s
+pub block-read : (size n : ℕ) (m : Marks) (s : List ℕ) → n * size ≤ length s → stripped size n (storedBlock size n m s) ≡ take (n * size) s
+block-read size n m s h = rw append-nil at (block-read-on size n m s [] h)
+
+pub blocks-read-on : (size n k : ℕ) (m : Marks) (s r : List ℕ) → k * (n * size) ≤ length s → stripped size (k * n) (storedBlocks size n k m s ++ r) ≡ take (k * (n * size)) s
 unfolding stripped storedBlocks
-blocks-read size n k m s r h =
+blocks-read-on size n k m s r h =
     runs-lots (λ (u : ℕ) (l : List ℕ). take size l) (size + 8) 0 n k (runs (storedBlock size n) (later n) (n * size) k m s ++ r)
-    ∙ runs-read (storedBlock size n) (later n) (n * size) (stripped size n) (n * (size + 8)) (block-read size n) (block-length size n) k m s r h
+    ∙ runs-read (storedBlock size n) (later n) (n * size) (stripped size n) (n * (size + 8)) (block-read-on size n) (block-length size n) k m s r h
+
+pub blocks-read : (size n k : ℕ) (m : Marks) (s : List ℕ) → k * (n * size) ≤ length s → stripped size (k * n) (storedBlocks size n k m s) ≡ take (k * (n * size)) s
+blocks-read size n k m s h = rw append-nil at (blocks-read-on size n k m s [] h)
 
 -- ---- the fields written are the fields read
 module _ (m : Marks) (d : List ℕ) where

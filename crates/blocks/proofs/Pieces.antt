@@ -68,11 +68,11 @@ module _ {A : Type 0} (piece : A → List ℕ → List ℕ) (next : A → A) (P 
       ∙ sym (take-add P (k * P) s) ∙ ap (λ (n : ℕ). take n s) (sym (one-more k P)))
 
 -- what is made of a part of P elements alone is made of the list from there on
-pub of-part : (made : List ℕ → List ℕ) (P i : ℕ) (s : List ℕ) → ((l r : List ℕ) → P ≤ length l → made (l ++ r) ≡ made l) → i + P ≤ length s
-    → made (take (i + P - i) (drop i s)) ≡ made (drop i s)
-of-part made P i s own h =
+pub of-part : (made : List ℕ → List ℕ) (P i : ℕ) (s new : List ℕ) → ((l r : List ℕ) → P ≤ length l → made (l ++ r) ≡ made l) → i + P ≤ length s
+    → new ≡ made (take (i + P - i) (drop i s)) → new ≡ made (drop i s)
+of-part made P i s new own h e =
     let long : length (take P (drop i s)) ≡ P = length-take-le P (drop i s) (rw length-drop (omega arith)) in
-    ap made (cut i P s) ∙ sym (own (take P (drop i s)) (drop P (drop i s)) (le-of-eq (sym long))) ∙ ap made (take-append-drop P (drop i s))
+    e ∙ ap made (cut i P s) ∙ sym (own (take P (drop i s)) (drop P (drop i s)) (le-of-eq (sym long))) ∙ ap made (take-append-drop P (drop i s))
 
 nil-of : (s : List ℕ) → length s ≡ 0 → s ≡ []
 nil-of [] e = refl

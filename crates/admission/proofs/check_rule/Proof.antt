@@ -1,36 +1,32 @@
+-- `admission::check_rule`: only VERIFY has byte-check bits.
+-- Assumes nothing.
+use mathlib.Core.Path.{sym, ap, _∙_}
+use Rattle.admission.specs.Admission.{isVerify}
+use Rattle.admission.proofs.Rules.{check-other, check-zero, check-some}
 use borrow.Author.Needs.{needs}
 use Rattle.admission.proofs.check_rule.Statement.{statement}
 use Rattle.admission.proofs.check_rule.Tie as tie
-use Rattle.admission.proofs.check_rule.Reads as reads
-use Rattle.admission.proofs.check_rule.Lts as lts
 
--- src/lib.rt:55:28
 enum-told : tie.Need-enum-told
 enum-told c = search needs
 
--- src/lib.rt:56:29
 enum-told-2 : tie.Need-enum-told-2
 enum-told-2 c = search needs
 
--- src/lib.rt:58:16
 enum-told-3 : tie.Need-enum-told-3
 enum-told-3 c = search needs
 
--- src/lib.rt:59:17
 returns : tie.Need-returns
-returns c = search needs
+returns c = sym (check-zero _ (c .if1 .taken))
 
--- src/lib.rt:50:1
 returns-2 : tie.Need-returns-2
-returns-2 c = search needs
+returns-2 c = sym (check-other _ (ap isVerify (c .enum-told .given)))
 
--- src/lib.rt:50:1
 returns-3 : tie.Need-returns-3
-returns-3 c = search needs
+returns-3 c = sym (check-other _ (ap isVerify (c .enum-told2 .given)))
 
--- src/lib.rt:50:1
 returns-4 : tie.Need-returns-4
-returns-4 c = search needs
+returns-4 c = sym (check-some _ (ap isVerify (c .before .before .enum-told3 .given)) (c .if1 .left))
 
 pub check-rule-spec : {M : Type 1} → statement M
 check-rule-spec =

@@ -1,16 +1,16 @@
+-- `admission::code_rule`: the test decides.
+-- Assumes nothing.
+use mathlib.Core.Path.{sym, _∙_}
+use Rattle.admission.proofs.Rules.{code-over, code-fits}
 use borrow.Author.Needs.{needs}
 use Rattle.admission.proofs.code_rule.Statement.{statement}
 use Rattle.admission.proofs.code_rule.Tie as tie
-use Rattle.admission.proofs.code_rule.Reads as reads
-use Rattle.admission.proofs.code_rule.Lts as lts
 
--- src/lib.rt:45:9
 returns : tie.Need-returns
-returns c = search needs
+returns c = sym (code-over _ (c .if1 .taken))
 
--- src/lib.rt:41:1
 returns-2 : tie.Need-returns-2
-returns-2 c = search needs
+returns-2 c = sym (code-fits _ (c .if1 .left))
 
 pub code-rule-spec : {M : Type 1} → statement M
 code-rule-spec = tie.close (tie.spec returns returns-2)

@@ -1,29 +1,27 @@
+-- `admission::moved`: the code decides, and neither product is large.
+-- Assumes nothing.
+use Prim.Native.Nat.{ℕ, _*_}
+use mathlib.Core.Path.{sym, ap, _∙_}
+use native.Mathlib.Omega.{arith}
+use Rattle.admission.proofs.Rules.{moved-plain, moved-whole, moved-most}
 use borrow.Author.Needs.{needs}
 use Rattle.admission.proofs.moved.Statement.{statement}
 use Rattle.admission.proofs.moved.Tie as tie
-use Rattle.admission.proofs.moved.Reads as reads
-use Rattle.admission.proofs.moved.Lts as lts
-use Rattle.segment.proofs.stored.Reads as stored-reads
 
--- src/lib.rt:89:16
 mul-result : tie.Need-mul-result
-mul-result c = search needs
+mul-result c = omega (arith, moved-most _ _ (c .before .before .before .before .pre .0) (c .before .before .before .before .pre .1) .0)
 
--- src/lib.rt:89:9
 returns : tie.Need-returns
-returns c = search needs
+returns c = sym (moved-plain _ _ (c .before .before .if1 .taken))
 
--- src/lib.rt:91:16
 stored-requires : tie.Need-stored-requires
 stored-requires c κs = search needs
 
--- src/lib.rt:91:5
 mul-result-2 : tie.Need-mul-result-2
-mul-result-2 c = search needs
+mul-result-2 c = rw (c .before .stored .ensures) (omega (arith, moved-most _ _ (c .before .before .before .before .pre .0) (c .before .before .before .before .pre .1) .1))
 
--- src/lib.rt:83:1
 returns-2 : tie.Need-returns-2
-returns-2 c = search needs
+returns-2 c = ap (λ (x : ℕ). c .before .before .before .before .args .c .length * x) (c .before .stored .ensures) ∙ sym (moved-whole _ _ (c .before .before .if1 .left))
 
 pub moved-spec : {M : Type 1} → statement M
 moved-spec = tie.close (tie.spec mul-result returns stored-requires mul-result-2 returns-2)

@@ -1,36 +1,31 @@
+-- `admission::type_rules`: each return is one of the rules.
+-- Assumes nothing.
+use mathlib.Core.Path.{sym, _∙_}
+use Rattle.admission.proofs.Rules.{long-two, long-other, short-two, short-zero, plain-code, short-other}
 use borrow.Author.Needs.{needs}
 use Rattle.admission.proofs.type_rules.Statement.{statement}
 use Rattle.admission.proofs.type_rules.Tie as tie
-use Rattle.admission.proofs.type_rules.Reads as reads
-use Rattle.admission.proofs.type_rules.Lts as lts
 
--- src/lib.rt:22:13
 returns : tie.Need-returns
-returns c = search needs
+returns c = sym (long-two _ _ (c .before .before .if1 .taken) (c .if2 .taken))
 
--- src/lib.rt:24:9
 returns-2 : tie.Need-returns-2
-returns-2 c = search needs
+returns-2 c = sym (long-other _ _ (c .before .before .if1 .taken) (c .if2 .left))
 
--- src/lib.rt:28:13
 returns-3 : tie.Need-returns-3
-returns-3 c = search needs
+returns-3 c = sym (short-zero _ _ (c .before .before .before .before .if1 .left) (c .if4 .taken))
 
--- src/lib.rt:30:9
 returns-4 : tie.Need-returns-4
-returns-4 c = search needs
+returns-4 c = sym (short-two _ _ (c .before .before .before .before .if1 .left) (c .before .before .if3 .taken) (c .if4 .left))
 
--- src/lib.rt:33:9
 returns-5 : tie.Need-returns-5
-returns-5 c = search needs
+returns-5 c = sym (short-zero _ _ (c .before .before .before .before .if1 .left) (c .if5 .taken))
 
--- src/lib.rt:36:9
 returns-6 : tie.Need-returns-6
-returns-6 c = search needs
+returns-6 c = sym (plain-code _ _ (c .before .before .before .before .before .before .if1 .left) (c .if6 .taken) (c .before .before .if5 .left))
 
--- src/lib.rt:17:1
 returns-7 : tie.Need-returns-7
-returns-7 c = search needs
+returns-7 c = sym (short-other _ _ (c .before .before .before .before .before .before .if1 .left) (c .before .before .before .before .if3 .left) (c .if6 .left))
 
 pub type-rules-spec : {M : Type 1} → statement M
 type-rules-spec =

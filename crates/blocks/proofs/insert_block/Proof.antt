@@ -21,8 +21,8 @@ use Rattle.blocks.proofs.insert_block.Tie as tie
 interval-of : (size i : ℕ) (m : Marks) (s new : List ℕ) → i + size ≤ length s → new ≡ withField (length (take (i + size - i) (drop i s))) m (take (i + size - i) (drop i s))
     → new ≡ withField size m (drop i s)
 interval-of size i m s new h e =
-    e ∙ ap (λ (n : ℕ). withField n m (take (i + size - i) (drop i s))) (part-length i size s h)
-    ∙ of-part (withField size m) size i s (interval-behind size m) h
+    of-part (withField size m) size i s new (interval-behind size m) h
+    (e ∙ ap (λ (n : ℕ). withField n m (take (i + size - i) (drop i s))) (part-length i size s h))
 
 abbrev Inv-loop : tie.InvT-loop
 Inv-loop t d₀ s size intervals application step reference₀ left₀ i₀ a₀ d reference left i a =
@@ -53,7 +53,7 @@ part-insert-interval-start : tie.Need-part-insert-interval-start Inv-loop μ-loo
 part-insert-interval-start c = search needs
 
 part-insert-interval-end : tie.Need-part-insert-interval-end Inv-loop μ-loop
-part-insert-interval-end c = room (c .before .loop .inv) (c .loop-test .taken)
+part-insert-interval-end c = omega (arith, room (c .before .loop .inv) (c .loop-test .taken))
 
 sub-insert-interval-2 : tie.Need-sub-insert-interval-2 Inv-loop μ-loop
 sub-insert-interval-2 c = search needs

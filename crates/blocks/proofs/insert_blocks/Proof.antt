@@ -86,7 +86,7 @@ loop-again c =
     let test = c .before .before .before .before .before .before in
     let l = test .before .loop in
     turn (l .inv) _ _ (test .loop-test .taken) (c .before .before .segment .given .0)
-    (c .before .before .before .insert-block .ensures ∙ of-part (storedBlock _ _ _) _ (l .i) _ (block-behind _ _ _) (within (l .inv) (test .loop-test .taken)))
+    (of-part (storedBlock _ _ _) _ (l .i) _ _ (block-behind _ _ _) (within (l .inv) (test .loop-test .taken)) (c .before .before .before .insert-block .ensures))
     (marks-later _ _ _ _ _ _ refl (c .wrapping-add-u32 .ensures))
 
 same-length : tie.Need-same-length Inv-loop μ-loop

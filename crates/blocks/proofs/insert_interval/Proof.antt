@@ -44,7 +44,7 @@ interval-made m g s d d₁ d₂ d₃ d₄ room e₁ eg e₂ e₃ e₄ =
     let w₃ = wrote (length s + 2) 2 (m .application) n (length s + 4) d₂ d₃ (s ++ bytes 2 g) w₂ e₃ (omega arith) (omega arith) in
     let w₄ = wrote (length s + 4) 4 (m .reference) n n d₃ d₄ ((s ++ bytes 2 g) ++ bytes 2 (m .application)) w₃ e₄ (omega arith) (omega arith) in
     sym (take-all n d₄ (omega (arith, w₄ .long))) ∙ w₄ .upto
-    ∙ rw (take-length, append-assoc, append-assoc, eg)
+    ∙ rw (take-length, append-assoc (s ++ bytes 2 g), append-assoc s, eg)
 
 slice-relend-prefix-copy : tie.Need-slice-relend-prefix-copy
 slice-relend-prefix-copy c = search needs

@@ -1,0 +1,126 @@
+-- Each rule of admission from the facts that decide it.
+-- Assumes nothing.
+use mathlib.Core.Path.{_≡_, refl, sym, ap, _∙_}
+use mathlib.Core.Bool.{Bool, true, false, not, _&&_, _||_, cond}
+use Prim.Native.Nat.{ℕ, _+_, _*_, _≤_, _<_}
+use native.Mathlib.Nat.{mul-le-mul}
+use native.Mathlib.Omega.{arith}
+use borrow.Author.Tests.{lt-ltb, le-ltb, eq-eqb, ne-eqb}
+use lib.Dec.{ltb, eqb}
+use Rattle.answer.specs.declared.Answer.{Answer}
+use Rattle.answer.specs.declared.Answer.the-variants as answers
+use Rattle.segment.specs.declared.Description.{Description}
+use Rattle.segment.specs.Segment.{Segment, storedOf}
+use Rattle.segment.proofs.Laws.{sizes}
+use Rattle.command.specs.declared.Command.{Command}
+use Rattle.command.specs.declared.Operation.{Operation}
+use Rattle.command.specs.declared.Operation.the-variants.{Read, Write, Verify}
+use Rattle.admission.specs.Admission.{typeRules, codeRule, isVerify, checkRule, rangeRule, movedOf, sizeRule, bufferOf, bufferRule}
+
+module _ (d : Description) (c : Command) where
+  -- ---- the type rules
+  pub long-two : c .long ≡ true → d .kind ≡ 2 → typeRules d c ≡ answers.Good
+  unfolding typeRules
+  long-two l k = rw (l, k)
+
+  pub long-other : c .long ≡ true → (d .kind ≡ 2 → ⊥) → typeRules d c ≡ answers.Operation
+  unfolding typeRules
+  long-other l k = rw (l, ne-eqb (d .kind) 2 k)
+
+  pub short-two : c .long ≡ false → d .kind ≡ 2 → (c .code ≡ 0 → ⊥) → typeRules d c ≡ answers.Operation
+  unfolding typeRules
+  short-two l k n = rw (l, k, ne-eqb (c .code) 0 n)
+
+  pub short-zero : c .long ≡ false → c .code ≡ 0 → typeRules d c ≡ answers.Good
+  unfolding typeRules
+  short-zero l z = rw (l, eq-eqb (c .code) 0 z) (none (eqb (d .kind) 2) (eqb (d .kind) 0))
+    where
+      none : (a b : Bool) → cond (a && false) answers.Operation (cond (b && false) answers.Field answers.Good) ≡ answers.Good
+      none true true = refl
+      none true false = refl
+      none false true = refl
+      none false false = refl
+
+  pub plain-code : c .long ≡ false → d .kind ≡ 0 → (c .code ≡ 0 → ⊥) → typeRules d c ≡ answers.Field
+  unfolding typeRules
+  plain-code l k n = rw (l, k, ne-eqb (c .code) 0 n)
+
+  pub short-other : c .long ≡ false → (d .kind ≡ 2 → ⊥) → (d .kind ≡ 0 → ⊥) → typeRules d c ≡ answers.Good
+  unfolding typeRules
+  short-other l k n = rw (l, ne-eqb (d .kind) 2 k, ne-eqb (d .kind) 0 n)
+
+  -- ---- the address: whole numbers, no wrap
+  pub below : c .address < d .first → rangeRule d c ≡ answers.Address
+  unfolding rangeRule
+  below h = rw (lt-ltb (c .address) (d .first) h)
+
+  pub above : d .first ≤ c .address → d .first + d .count < c .address + c .length → rangeRule d c ≡ answers.Address
+  unfolding rangeRule
+  above h l = rw (le-ltb (c .address) (d .first) h, lt-ltb (d .first + d .count) (c .address + c .length) l)
+
+  pub inside : d .first ≤ c .address → c .address + c .length ≤ d .first + d .count → rangeRule d c ≡ answers.Good
+  unfolding rangeRule
+  inside h l = rw (le-ltb (c .address) (d .first) h, le-ltb (d .first + d .count) (c .address + c .length) l)
+
+  -- ---- the bytes moved
+  pub moved-plain : c .code ≡ 0 → movedOf d c ≡ c .length * d .block
+  unfolding movedOf
+  moved-plain z = rw (eq-eqb (c .code) 0 z)
+
+  pub moved-whole : (c .code ≡ 0 → ⊥) → movedOf d c ≡ c .length * storedOf d
+  unfolding movedOf
+  moved-whole n = rw (ne-eqb (c .code) 0 n)
+
+  pub moved-most : Segment d → c .length ≤ 65536 → (c .length * d .block ≤ 65536 * 4096) × (c .length * storedOf d ≤ 65536 * 4160)
+  moved-most s h = (mul-le-mul h (s .most), mul-le-mul h (sizes d s .stored-most))
+
+  pub size-over : 4294967295 < movedOf d c → sizeRule d c ≡ answers.Size
+  unfolding sizeRule
+  size-over h = rw (lt-ltb 4294967295 (movedOf d c) h)
+
+  pub size-fits : movedOf d c ≤ 4294967295 → sizeRule d c ≡ answers.Good
+  unfolding sizeRule
+  size-fits h = rw (le-ltb 4294967295 (movedOf d c) h)
+
+  -- ---- the buffer
+  pub room-verify : isVerify (c .operation) ≡ true → bufferOf d c ≡ 0
+  unfolding bufferOf
+  room-verify v = rw v
+
+  pub room-moved : isVerify (c .operation) ≡ false → bufferOf d c ≡ movedOf d c
+  unfolding bufferOf
+  room-moved v = rw v
+
+  pub buffer-fits : (b : ℕ) → b ≡ bufferOf d c → bufferRule d c b ≡ answers.Good
+  unfolding bufferRule
+  buffer-fits b e = rw (eq-eqb b (bufferOf d c) e)
+
+  pub buffer-unfit : (b : ℕ) → (b ≡ bufferOf d c → ⊥) → bufferRule d c b ≡ answers.BufferLength
+  unfolding bufferRule
+  buffer-unfit b n = rw (ne-eqb b (bufferOf d c) n)
+
+-- ---- the code and the byte-check bits
+module _ (c : Command) where
+  pub code-over : 0b101 < c .code → codeRule c ≡ answers.Field
+  unfolding codeRule
+  code-over h = rw (lt-ltb 0b101 (c .code) h)
+
+  pub code-fits : c .code ≤ 0b101 → codeRule c ≡ answers.Good
+  unfolding codeRule
+  code-fits h = rw (le-ltb 0b101 (c .code) h)
+
+  pub check-other : isVerify (c .operation) ≡ false → checkRule c ≡ answers.Good
+  unfolding checkRule
+  check-other v = rw v
+
+  pub check-zero : c .check ≡ 0 → checkRule c ≡ answers.Good
+  unfolding checkRule
+  check-zero z = rw (eq-eqb (c .check) 0 z) (none (isVerify (c .operation)))
+    where
+      none : (a : Bool) → cond (a && false) answers.Field answers.Good ≡ answers.Good
+      none true = refl
+      none false = refl
+
+  pub check-some : isVerify (c .operation) ≡ true → (c .check ≡ 0 → ⊥) → checkRule c ≡ answers.Field
+  unfolding checkRule
+  check-some v n = rw (v, ne-eqb (c .check) 0 n)
