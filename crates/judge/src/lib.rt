@@ -3,7 +3,7 @@ ghost use mathlib.Core.Path.{_≡_};
 ghost use Prim.Native.Nat.{_+_, _*_, _≤_, _<_, _^_};
 ghost use lib.ListN.{length};
 ghost use Rattle.guard.specs.Table.{Right};
-ghost use Rattle.judge.specs.Judge.{escapes, anyEscapes, judgePieces, judgeIntervals, judgeBlock, judgeBlocks, nextInterval, nextBlock, Run};
+ghost use Rattle.judge.specs.Judge.{escapes, anyEscapes, guardWrong, applicationWrong, referenceWrong, judgePieces, judgeIntervals, judgeBlock, judgeBlocks, nextInterval, nextBlock, Run};
 use answer::Answer;
 
 // What lifts all checks from a block: nothing, an application tag FFFFh, or that with a reference tag FFFFFFFFh.
@@ -38,7 +38,16 @@ pub fn escaped(e: Escape, field: &[u8]) -> bool
     requires { ⌜ length (now field) ≡ 8 ⌝ }
     ensures { λ r. ⌜ r ≡ escapes e (now (field .entry)) ⌝ }
 {
-    // ..
+    match e {
+        Escape::Never => false,
+        Escape::Tag => words::read2(field, 2) == 0xFFFF,
+        Escape::Both => {
+            if words::read2(field, 2) != 0xFFFF {
+                return false;
+            }
+            words::read4(field, 4) == 0xFFFF_FFFF
+        }
+    }
 }
 
 // Whether any of the first `count` intervals has the escape.
@@ -46,7 +55,52 @@ fn any_escaped(e: Escape, size: usize, count: usize, s: &[u8]) -> bool
     requires { ⌜ count * (size + 8) ≡ length (now s) ⌝ }
     ensures { λ r. ⌜ r ≡ anyEscapes e size count (now (s .entry)) ⌝ }
 {
-    // a loop over parts of s
+    let mut left = count;
+    let mut i: usize = 0;
+    while 0 < left {
+        let m = i + size;
+        let end = m + 8;
+        if escaped(e, &s[m..end]) {
+            return true;
+        }
+        i = end;
+        left -= 1;
+    }
+    false
+}
+
+// Whether the guard is checked and is not that of the data.
+fn guard_wrong(t: &[u16; 256], r: Rules, data: &[u8], field: &[u8]) -> bool
+    requires { ⌜ Right (now t) ⌝ }
+    requires { ⌜ length (now field) ≡ 8 ⌝ }
+    ensures { λ w. ⌜ w ≡ guardWrong r (now («data» .entry)) (now (field .entry)) ⌝ }
+{
+    if r.guard {
+        return words::read2(field, 0) != guard::guard_through(t, data);
+    }
+    false
+}
+
+// Whether the application tag is checked and is another than expected where the mask has ones.
+fn application_wrong(r: Rules, field: &[u8]) -> bool
+    requires { ⌜ length (now field) ≡ 8 ⌝ }
+    ensures { λ w. ⌜ w ≡ applicationWrong r (now (field .entry)) ⌝ }
+{
+    if r.application {
+        return words::read2(field, 2) & r.mask != r.expected & r.mask;
+    }
+    false
+}
+
+// Whether the reference tag is checked and is another than expected at the place.
+fn reference_wrong(r: Rules, p: Place, field: &[u8]) -> bool
+    requires { ⌜ length (now field) ≡ 8 ⌝ }
+    ensures { λ w. ⌜ w ≡ referenceWrong r p (now (field .entry)) ⌝ }
+{
+    if r.reference {
+        return words::read4(field, 4) != p.tag;
+    }
+    false
 }
 
 // One interval, as two pieces: its data and its eight field bytes.
@@ -55,7 +109,39 @@ pub fn judge_pieces(t: &[u16; 256], r: Rules, p: Place, data: &[u8], field: &[u8
     requires { ⌜ length (now field) ≡ 8 ⌝ }
     ensures { λ a. ⌜ a ≡ judgePieces r p (now («data» .entry)) (now (field .entry)) ⌝ }
 {
-    // guard::guard_through(t, data) only where r.guard
+    if guard_wrong(t, r, data, field) {
+        return Answer::Guard(p.address, p.interval);
+    }
+    if application_wrong(r, field) {
+        return Answer::Application(p.address, p.interval);
+    }
+    if reference_wrong(r, p, field) {
+        return Answer::Reference(p.address, p.interval);
+    }
+    Answer::Good
+}
+
+// The place of the next interval of the block, and of the next block.
+fn next_interval(p: Place) -> Place
+    requires { ⌜ p .interval < 2 ^ 32 ⌝ }
+    ensures { λ q. ⌜ q ≡ nextInterval p ⌝ }
+{
+    Place {
+        address: p.address,
+        interval: p.interval + 1,
+        tag: std::num::wrapping_add_u32(p.tag, 1),
+    }
+}
+
+fn next_block(n: usize, p: Place) -> Place
+    requires { ⌜ (n ≤ 8) × (p .interval + n ≤ 2 ^ 32) × (p .address < 2 ^ 63) ⌝ }
+    ensures { λ q. ⌜ q ≡ nextBlock n p ⌝ }
+{
+    Place {
+        address: p.address + 1,
+        interval: p.interval + n as u64,
+        tag: std::num::wrapping_add_u32(p.tag, n as u32),
+    }
 }
 
 // The first wrong one of the intervals of a block.
@@ -64,7 +150,22 @@ fn judge_intervals(t: &[u16; 256], r: Rules, p: Place, s: &[u8]) -> Answer
     requires { ⌜ Run r 1 p (now s) ⌝ }
     ensures { λ a. ⌜ a ≡ judgeIntervals r (r .intervals) p (now (s .entry)) ⌝ }
 {
-    // a loop: judge_pieces(t, r, here, &s[i..m], &s[m..e])
+    let size = r.size;
+    let mut left = r.intervals;
+    let mut here = p;
+    let mut i: usize = 0;
+    while 0 < left {
+        let m = i + size;
+        let end = m + 8;
+        let a = judge_pieces(t, r, here, &s[i..m], &s[m..end]);
+        if !answer::good(a) {
+            return a;
+        }
+        here = next_interval(here);
+        i = end;
+        left -= 1;
+    }
+    Answer::Good
 }
 
 // A block: not judged where any of its intervals has the escape.
@@ -73,7 +174,11 @@ pub fn judge_block(t: &[u16; 256], r: Rules, p: Place, s: &[u8]) -> Answer
     requires { ⌜ Run r 1 p (now s) ⌝ }
     ensures { λ a. ⌜ a ≡ judgeBlock r p (now (s .entry)) ⌝ }
 {
-    // ..
+    let escape = r.escape;
+    if any_escaped(escape, r.size, r.intervals, s) {
+        return Answer::Good;
+    }
+    judge_intervals(t, r, p, s)
 }
 
 // A run of `count` blocks: the first wrong interval, guard before application before reference.
@@ -82,5 +187,20 @@ pub fn judge_blocks(t: &[u16; 256], r: Rules, p: Place, count: usize, s: &[u8]) 
     requires { ⌜ Run r count p (now s) ⌝ }
     ensures { λ a. ⌜ a ≡ judgeBlocks r count p (now (s .entry)) ⌝ }
 {
-    // a loop: judge_block(t, r, here, &s[i..e])
+    let n = r.intervals;
+    let block = n * (r.size + 8);
+    let mut left = count;
+    let mut here = p;
+    let mut i: usize = 0;
+    while 0 < left {
+        let end = i + block;
+        let a = judge_block(t, r, here, &s[i..end]);
+        if !answer::good(a) {
+            return a;
+        }
+        here = next_block(n, here);
+        i = end;
+        left -= 1;
+    }
+    Answer::Good
 }

@@ -1,0 +1,158 @@
+-- Intervals, blocks and runs of blocks: their parts, the escape, what they can depend on, and what is not checked at all.
+-- Assumes nothing.
+use mathlib.Core.Path.{_≡_, refl, sym, ap, ap₂, _∙_}
+use mathlib.Core.Logic.{_↔_}
+use mathlib.Core.Bool.{Bool, true, false, _||_, cond, true≢false}
+use mathlib.Core.List.{List}
+use Prim.Native.Nat.{ℕ, zero, suc, _+_, _-_, _*_, _^_, _<_, _≤_}
+use native.Mathlib.Nat.{zero-add, one-mul, add-assoc}
+use native.Mathlib.Omega.{arith}
+use lib.ListN.{length, take, drop, length-drop}
+use lib.Seq.{drop-drop, take-take, length-take-le}
+use Rattle.words.proofs.Runs.{peel-within, peel-rest}
+use Rattle.answer.specs.declared.Answer.{Answer}
+use Rattle.answer.specs.declared.Answer.the-variants as answers
+use Rattle.judge.specs.declared.Escape.{Escape}
+use Rattle.judge.specs.declared.Rules.{Rules}
+use Rattle.judge.specs.declared.Place.{Place}
+use Rattle.judge.specs.Judge.{dataOf, fieldOf, escapes, anyEscapes, judgePieces, judgeInterval, judgeIntervals, judgeBlock, judgeBlocks, nextInterval, nextBlock, Run}
+use Rattle.judge.proofs.FirstLaws.{turn-of, own-of, every-of, own-bytes, first-good, drop-take}
+use Rattle.judge.proofs.PieceLaws.{pieces-unchecked}
+
+-- ---- the parts of an interval that starts at i, the first of k that end at n
+pub interval-within : (k i size n : ℕ) → 0 < k → i + k * (size + 8) ≡ n → i + size + 8 ≤ n
+interval-within k i size n h e = rw (add-assoc i size 8) (peel-within k i (size + 8) n h e)
+
+pub interval-rest : (k i size n : ℕ) → 0 < k → i + k * (size + 8) ≡ n → i + size + 8 + (k - 1) * (size + 8) ≡ n
+interval-rest k i size n h e = rw (add-assoc i size 8) (peel-rest k i (size + 8) n h e)
+
+pub data-part : (i size : ℕ) (s : List ℕ) → take (i + size - i) (drop i s) ≡ dataOf size (drop i s)
+unfolding dataOf
+data-part i size s = let same : i + size - i ≡ size = omega arith in rw same refl
+
+pub field-part : (i size : ℕ) (s : List ℕ) → take (i + size + 8 - (i + size)) (drop (i + size) s) ≡ fieldOf size (drop i s)
+unfolding fieldOf
+field-part i size s = let same : i + size + 8 - (i + size) ≡ 8 = omega arith in rw (same, drop-drop) refl
+
+-- an interval's parts are its own bytes
+own-data : (size : ℕ) (s : List ℕ) → dataOf size (take (size + 8) s) ≡ dataOf size s
+unfolding dataOf
+own-data size s = take-take size (size + 8) s (omega arith)
+
+own-field : (size : ℕ) (s : List ℕ) → fieldOf size (take (size + 8) s) ≡ fieldOf size s
+unfolding fieldOf
+own-field size s = rw drop-take (take-take 8 8 (drop size s) (omega arith))
+
+-- ---- the escape of any of k intervals
+or-none : (a b : Bool) → (a || b ≡ false) ↔ ((a ≡ false) × (b ≡ false))
+or-none true b = (λ e. (e, absurd (true≢false e)), λ two. two .0)
+or-none false b = (λ e. (refl, e), λ two. two .1)
+
+module _ (e : Escape) (size : ℕ) where
+  abbrev looked : Unit {0} → List ℕ → Bool
+  looked u s = escapes e (fieldOf size s)
+
+  abbrev asked : ℕ → Unit {0} → List ℕ → Bool
+  asked k u s = anyEscapes e size k s
+
+  turned : (k : ℕ) (u : Unit {0}) (s : List ℕ) → asked (suc k) u s ≡ looked u s || asked k u (drop (size + 8) s)
+  unfolding anyEscapes
+  turned k u s = refl
+
+  module _ (k i : ℕ) (s : List ℕ) (b whole : Bool) where
+    -- a turn of a loop
+    pub any-next : 0 < k → b ≡ escapes e (fieldOf size (drop i s)) → b ≡ false → anyEscapes e size k (drop i s) ≡ whole
+        → anyEscapes e size (k - 1) (drop (i + (size + 8)) s) ≡ whole
+    any-next h m o w = rw o at (turn-of looked (λ u. u) (size + 8) asked _||_ turned k i tt s b whole h m w)
+
+    pub any-stop : 0 < k → b ≡ escapes e (fieldOf size (drop i s)) → b ≡ true → anyEscapes e size k (drop i s) ≡ whole → true ≡ whole
+    any-stop h m o w = rw o at (turn-of looked (λ u. u) (size + 8) asked _||_ turned k i tt s b whole h m w)
+
+  pub any-end : (k : ℕ) (s : List ℕ) (whole : Bool) → k ≤ 0 → anyEscapes e size k s ≡ whole → false ≡ whole
+  unfolding anyEscapes
+  any-end zero s whole h w = w
+  any-end (suc k) s whole h w = absurd (omega arith)
+
+  -- none has it exactly when each has it not
+  pub any-none : (k : ℕ) (s : List ℕ) → (anyEscapes e size k s ≡ false) ↔ ((j : ℕ) → j < k → escapes e (fieldOf size (drop (j * (size + 8)) s)) ≡ false)
+  unfolding anyEscapes
+  any-none k s = every-of looked (λ u. u) (size + 8) asked _||_ turned false false (λ u t. refl) or-none k tt s
+
+  pub own-any : (k : ℕ) (s : List ℕ) → anyEscapes e size k (take (k * (size + 8)) s) ≡ anyEscapes e size k s
+  unfolding anyEscapes
+  own-any k s = own-of looked (λ u. u) (size + 8) asked _||_ turned (λ u t. refl) (λ u t. ap (escapes e) (own-field size t)) k tt s
+
+-- ---- what judging can depend on
+module _ (r : Rules) where
+  pub own-interval : (p : Place) (s : List ℕ) → judgeInterval r p (take (r .size + 8) s) ≡ judgeInterval r p s
+  unfolding judgeInterval
+  own-interval p s = ap₂ (judgePieces r p) (own-data (r .size) s) (own-field (r .size) s)
+
+  pub own-block : (p : Place) (s : List ℕ) → judgeBlock r p (take (r .intervals * (r .size + 8)) s) ≡ judgeBlock r p s
+  unfolding judgeBlock judgeIntervals
+  own-block p s =
+      ap₂ (λ (b : Bool) (a : Answer). cond b answers.Good a) (own-any (r .escape) (r .size) (r .intervals) s)
+      (own-bytes (judgeInterval r) nextInterval (r .size + 8) own-interval (r .intervals) p s)
+
+  pub own-blocks : (k : ℕ) (p : Place) (s : List ℕ) → judgeBlocks r k p (take (k * (r .intervals * (r .size + 8))) s) ≡ judgeBlocks r k p s
+  unfolding judgeBlocks
+  own-blocks = own-bytes (judgeBlock r) (nextBlock (r .intervals)) (r .intervals * (r .size + 8)) own-block
+
+-- ---- a block, by its escape
+cond-same : {A : Type 0} (b : Bool) (x : A) → cond b x x ≡ x
+cond-same true x = refl
+cond-same false x = refl
+
+module _ (r : Rules) (p : Place) (s : List ℕ) where
+  pub block-escaped : anyEscapes (r .escape) (r .size) (r .intervals) s ≡ true → judgeBlock r p s ≡ answers.Good
+  unfolding judgeBlock
+  block-escaped e = rw e refl
+
+  pub block-judged : anyEscapes (r .escape) (r .size) (r .intervals) s ≡ false → judgeBlock r p s ≡ judgeIntervals r (r .intervals) p s
+  unfolding judgeBlock
+  block-judged e = rw e refl
+
+-- ---- where nothing is checked
+module _ (r : Rules) (g : r .guard ≡ false) (a : r .application ≡ false) (x : r .reference ≡ false) where
+  pub interval-unchecked : (p : Place) (s : List ℕ) → judgeInterval r p s ≡ answers.Good
+  unfolding judgeInterval
+  interval-unchecked p s = pieces-unchecked r p _ _ g a x
+
+  pub block-unchecked : (p : Place) (s : List ℕ) → judgeBlock r p s ≡ answers.Good
+  unfolding judgeBlock judgeIntervals
+  block-unchecked p s =
+      let same = first-good (judgeInterval r) nextInterval (r .size + 8) (r .intervals) p s .1 (λ j h. interval-unchecked _ _) in
+      rw same (cond-same (anyEscapes (r .escape) (r .size) (r .intervals) s) answers.Good)
+
+  pub blocks-unchecked : (k : ℕ) (p : Place) (s : List ℕ) → judgeBlocks r k p s ≡ answers.Good
+  unfolding judgeBlocks
+  blocks-unchecked k p s = first-good (judgeBlock r) (nextBlock (r .intervals)) (r .intervals * (r .size + 8)) k p s .1 (λ j h. block-unchecked _ _)
+
+-- ---- a run of blocks: the first, and those behind it
+module _ (r : Rules) (k : ℕ) (p : Place) (s : List ℕ) (run : Run r k p s) (some : 0 < k) where
+  pub run-within : r .intervals * (r .size + 8) ≤ length s
+  run-within = rw zero-add at (peel-within k 0 (r .intervals * (r .size + 8)) (length s) some (zero-add _ ∙ run .whole))
+
+  -- the intervals of the first block, and then those of the others
+  apiece : p .interval + r .intervals + (k - 1) * r .intervals ≤ 2 ^ 32
+  apiece = rw (peel-rest k (p .interval) (r .intervals) _ some refl) (run .intervals)
+
+  pub run-one : Run r 1 p (take (r .intervals * (r .size + 8)) s)
+  run-one =
+      record {
+        whole = one-mul _ ∙ sym (length-take-le _ s run-within);
+        addresses = omega (arith, run .addresses);
+        intervals = omega (arith, apiece, one-mul (r .intervals));
+        few = run .few;
+        size = run .size;
+      }
+
+  pub run-next : Run r (k - 1) (nextBlock (r .intervals) p) (drop (r .intervals * (r .size + 8)) s)
+  run-next =
+      record {
+        whole = rw length-drop (omega (arith, peel-rest k 0 (r .intervals * (r .size + 8)) (length s) some (zero-add _ ∙ run .whole)));
+        addresses = omega (arith, run .addresses);
+        intervals = apiece;
+        few = run .few;
+        size = run .size;
+      }

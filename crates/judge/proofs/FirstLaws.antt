@@ -1,0 +1,181 @@
+-- The laws of what is asked or judged piece by piece: one turn of a loop, which piece the answer is of, and which elements it can depend on.
+-- Assumes nothing.
+use mathlib.Core.Path.{_≡_, refl, sym, ap, ap₂, _∙_}
+use mathlib.Core.Logic.{_↔_, _⊎_, inl, inr, ⊎-elim}
+use mathlib.Core.Bool.{true, false, true≢false}
+use mathlib.Core.List.{List, [], _∷_}
+use Prim.Native.Nat.{ℕ, zero, suc, _+_, _-_, _*_, _<_, _≤_}
+use native.Mathlib.Nat.{suc-add, suc-mul, zero-mul, zero-add, add-comm, le-of-suc-le-suc, not-suc-le-zero}
+use native.Mathlib.Omega.{arith}
+use lib.ListN.{take, drop}
+use lib.Seq.{drop-drop, take-nil, take-take}
+use Rattle.answer.specs.Answer.{isGood}
+use Rattle.answer.specs.declared.Answer.{Answer}
+use Rattle.answer.specs.declared.Answer.the-variants as answers
+use Rattle.judge.specs.FirstOf.{firstOf, orElse}
+
+-- the value after `next` was taken j times
+unfoldable pub after : {A : Type 0} → (A → A) → ℕ → A → A
+after next zero t = t
+after next (suc j) t = after next j (next t)
+
+pub drop-take : (n m : ℕ) (s : List ℕ) → drop n (take (n + m) s) ≡ take m (drop n s)
+drop-take zero m s = rw zero-add refl
+drop-take (suc n) m [] = simp take-nil
+drop-take (suc n) m (x ∷ s) = rw suc-add (drop-take n m s)
+
+-- ---- a question F that is asked piece by piece: of one piece more it is `op` of that piece's part and F of the pieces behind it
+module _ {A C : Type 0} (piece : A → List ℕ → C) (next : A → A) (P : ℕ) where
+  -- what piece j gives
+  abbrev pub pieceAt : A → List ℕ → ℕ → C
+  pieceAt t s j = piece (after next j t) (drop (j * P) s)
+
+  piece-zero : (t : A) (s : List ℕ) → pieceAt t s 0 ≡ piece t s
+  unfolding after
+  piece-zero t s = rw zero-mul refl
+
+  piece-suc : (t : A) (s : List ℕ) (j : ℕ) → pieceAt t s (suc j) ≡ pieceAt (next t) (drop P s) j
+  unfolding after
+  piece-suc t s j = rw (suc-mul, add-comm (j * P) P, drop-drop) refl
+
+  -- one piece more, before those of which something is known
+  all-of : (c : C) (k : ℕ) (t : A) (s : List ℕ) → piece t s ≡ c → ((j : ℕ) → j < k → pieceAt (next t) (drop P s) j ≡ c)
+      → (j : ℕ) → j < suc k → pieceAt t s j ≡ c
+  all-of c k t s g each zero h = piece-zero t s ∙ g
+  all-of c k t s g each (suc j) h = piece-suc t s j ∙ each j (le-of-suc-le-suc h)
+
+  module _ {B : Type 0} (F : ℕ → A → List ℕ → B) (op : C → B → B)
+      (turned : (k : ℕ) (t : A) (s : List ℕ) → F (suc k) t s ≡ op (piece t s) (F k (next t) (drop P s))) where
+    -- a turn of a loop
+    pub turn-of : (k i : ℕ) (t : A) (s : List ℕ) (c : C) (whole : B) → 0 < k → c ≡ piece t (drop i s) → F k t (drop i s) ≡ whole
+        → op c (F (k - 1) (next t) (drop (i + P) s)) ≡ whole
+    turn-of zero i t s c whole h m e = absurd (omega arith)
+    turn-of (suc k) i t s c whole h m e =
+        let down : suc k - 1 ≡ k = omega arith in
+        rw (down, m, ← drop-drop P i s) (sym (turned k t (drop i s)) ∙ e)
+
+    -- k pieces are answered by their own k * P elements, where each piece is by its own P
+    pub own-of : ((t : A) (s : List ℕ) → F 0 t (take 0 s) ≡ F 0 t s) → ((t : A) (s : List ℕ) → piece t (take P s) ≡ piece t s)
+        → (k : ℕ) (t : A) (s : List ℕ) → F k t (take (k * P) s) ≡ F k t s
+    own-of none own zero t s = rw zero-mul (none t s)
+    own-of none own (suc k) t s =
+        let long : suc k * P ≡ P + k * P = suc-mul k P ∙ add-comm (k * P) P in
+        rw long
+        (turned k t (take (P + k * P) s)
+        ∙ ap₂ op (sym (own t (take (P + k * P) s)) ∙ ap (piece t) (take-take P (P + k * P) s (omega arith)) ∙ own t s)
+        (ap (F k (next t)) (drop-take P (k * P) s) ∙ own-of none own k (next t) (drop P s))
+        ∙ sym (turned k t s))
+
+    -- F is `unit` exactly when each piece gives `go`
+    pub every-of : (unit : B) (go : C) → ((t : A) (s : List ℕ) → F 0 t s ≡ unit) → ((c : C) (b : B) → (op c b ≡ unit) ↔ ((c ≡ go) × (b ≡ unit)))
+        → (k : ℕ) (t : A) (s : List ℕ) → (F k t s ≡ unit) ↔ ((j : ℕ) → j < k → pieceAt t s j ≡ go)
+    every-of unit go none split zero t s = (λ e j h. absurd (not-suc-le-zero h), λ each. none t s)
+    every-of unit go none split (suc k) t s =
+        let behind = every-of unit go none split k (next t) (drop P s) in (
+          λ e. let two = split (piece t s) _ .0 (sym (turned k t s) ∙ e) in all-of go k t s (two .0) (behind .0 (two .1)),
+          λ each.
+              turned k t s
+              ∙ split (piece t s) _ .1 (sym (piece-zero t s) ∙ each 0 (omega arith), behind .1 (λ j h. sym (piece-suc t s j) ∙ each (suc j) (omega arith))),
+        )
+
+-- ---- the first answer that is not good
+
+-- an answer is the good one, or no good one
+pub good-or : (a : Answer) → (a ≡ answers.Good) ⊎ (isGood a ≡ false)
+good-or answers.Good = inl refl
+good-or answers.Description = inr refl
+good-or answers.Segment = inr refl
+good-or answers.CommandLength = inr refl
+good-or answers.BufferLength = inr refl
+good-or answers.Operation = inr refl
+good-or answers.Field = inr refl
+good-or answers.Address = inr refl
+good-or (answers.Guard a p) = inr refl
+good-or (answers.Application a p) = inr refl
+good-or (answers.Reference a p) = inr refl
+good-or answers.Stripe = inr refl
+good-or answers.Parameter = inr refl
+good-or answers.Listing = inr refl
+good-or answers.Size = inr refl
+
+pub not-both : (a : Answer) → a ≡ answers.Good → isGood a ≡ false → ⊥
+not-both a g w = true≢false (sym (ap isGood g) ∙ w)
+
+orElse-good : (a b : Answer) → (orElse a b ≡ answers.Good) ↔ ((a ≡ answers.Good) × (b ≡ answers.Good))
+orElse-good a b =
+    ⊎-elim
+    (λ g. rw g (λ e. (refl, e), λ two. two .1))
+    (λ w. rw w (λ e. absurd (not-both a e w), λ two. two .0))
+    (good-or a)
+
+module _ {A : Type 0} (judge : A → List ℕ → Answer) (next : A → A) (P : ℕ) where
+  turned : (k : ℕ) (t : A) (s : List ℕ) → firstOf judge next P (suc k) t s ≡ orElse (judge t s) (firstOf judge next P k (next t) (drop P s))
+  unfolding firstOf
+  turned k t s = refl
+
+  module _ (k i : ℕ) (t : A) (s : List ℕ) (a whole : Answer) where
+    -- a turn of a loop: after a good piece what is left gives what the whole gives, and a piece that is not good gives it at once
+    pub first-next : 0 < k → a ≡ judge t (drop i s) → isGood a ≡ true → firstOf judge next P k t (drop i s) ≡ whole
+        → firstOf judge next P (k - 1) (next t) (drop (i + P) s) ≡ whole
+    first-next h m g e = rw g at (turn-of judge next P (firstOf judge next P) orElse turned k i t s a whole h m e)
+
+    pub first-stop : 0 < k → a ≡ judge t (drop i s) → isGood a ≡ false → firstOf judge next P k t (drop i s) ≡ whole → a ≡ whole
+    first-stop h m g e = rw g at (turn-of judge next P (firstOf judge next P) orElse turned k i t s a whole h m e)
+
+  pub first-end : (k : ℕ) (t : A) (s : List ℕ) (whole : Answer) → k ≤ 0 → firstOf judge next P k t s ≡ whole → answers.Good ≡ whole
+  unfolding firstOf
+  first-end zero t s whole h e = e
+  first-end (suc k) t s whole h e = absurd (omega arith)
+
+  -- k pieces are judged by their own k * P elements, where each piece is by its own P
+  pub own-bytes : ((t : A) (s : List ℕ) → judge t (take P s) ≡ judge t s)
+      → (k : ℕ) (t : A) (s : List ℕ) → firstOf judge next P k t (take (k * P) s) ≡ firstOf judge next P k t s
+  unfolding firstOf
+  own-bytes own = own-of judge next P (firstOf judge next P) orElse turned (λ t s. refl) own
+
+  -- good exactly when every piece is good
+  pub first-good : (k : ℕ) (t : A) (s : List ℕ)
+      → (firstOf judge next P k t s ≡ answers.Good) ↔ ((j : ℕ) → j < k → pieceAt judge next P t s j ≡ answers.Good)
+  unfolding firstOf
+  first-good = every-of judge next P (firstOf judge next P) orElse turned answers.Good answers.Good (λ t s. refl) orElse-good
+
+  -- piece `at` is the first of k that is not good, and `a` is its judgement
+  pub record FirstWrong (k : ℕ) (t : A) (s : List ℕ) (a : Answer) : Type 0 where
+    pub at : ℕ
+    pub within : at < k
+    pub earlier : (j : ℕ) → j < at → pieceAt judge next P t s j ≡ answers.Good
+    pub here : pieceAt judge next P t s at ≡ a
+    pub wrong : isGood a ≡ false
+
+  -- the answer that is not good is the judgement of the first piece that is not good
+  pub first-found : (k : ℕ) (t : A) (s : List ℕ) → isGood (firstOf judge next P k t s) ≡ false → FirstWrong k t s (firstOf judge next P k t s)
+  unfolding firstOf
+  first-found zero t s w = absurd (true≢false w)
+  first-found (suc k) t s w =
+      ⊎-elim
+      (λ g.
+      let f = first-found k (next t) (drop P s) (rw g at w) in
+      rw g
+      (record {
+        at = suc (f .at);
+        within = omega arith;
+        earlier = all-of judge next P answers.Good (f .at) t s g (f .earlier);
+        here = piece-suc judge next P t s (f .at) ∙ f .here;
+        wrong = f .wrong;
+      }))
+      (λ n.
+      rw n
+      (record { at = 0; within = omega arith; earlier = λ j h. absurd (not-suc-le-zero h); here = piece-zero judge next P t s; wrong = n }))
+      (good-or (judge t s))
+
+  pub first-is : (k : ℕ) (t : A) (s : List ℕ) (a : Answer) → FirstWrong k t s a → firstOf judge next P k t s ≡ a
+  first-is k t s a f =
+      ⊎-elim
+      (λ e. absurd (not-both a (sym (f .here) ∙ first-good k t s .0 e (f .at) (f .within)) (f .wrong)))
+      (λ w.
+      let g = first-found k t s w in
+      let before : g .at < f .at → ⊥ = λ h. not-both _ (sym (g .here) ∙ f .earlier (g .at) h) (g .wrong) in
+      let behind : f .at < g .at → ⊥ = λ h. not-both a (sym (f .here) ∙ g .earlier (f .at) h) (f .wrong) in
+      let same : g .at ≡ f .at = omega arith in
+      sym (g .here) ∙ ap (pieceAt judge next P t s) same ∙ f .here)
+      (good-or (firstOf judge next P k t s))

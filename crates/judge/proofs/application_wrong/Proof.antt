@@ -1,0 +1,24 @@
+-- `judge::application_wrong`: a checked tag is compared under the mask, one that is not checked is not wrong.
+-- Assumes nothing.
+use mathlib.Core.Path.{ap}
+use Prim.Native.Nat.{ℕ}
+use lib.Bits.{bitAnd}
+use Rattle.judge.specs.Judge.{applicationWrong, storedApplication}
+use Rattle.judge.proofs.PieceLaws.{checked, unchecked}
+use borrow.Author.Needs.{needs}
+use Rattle.judge.proofs.application_wrong.Statement.{statement}
+use Rattle.judge.proofs.application_wrong.Tie as tie
+
+read2-requires : tie.Need-read2-requires
+read2-requires c κs = search needs
+
+returns : tie.Need-returns
+unfolding applicationWrong storedApplication
+returns c = search (checked, ap (λ (x : ℕ). bitAnd x (c .before .before .before .before .before .args .r .mask)) (c .before .before .read2 .ensures))
+
+returns-2 : tie.Need-returns-2
+unfolding applicationWrong storedApplication
+returns-2 c = search unchecked
+
+pub application-wrong-spec : {M : Type 1} → statement M
+application-wrong-spec = tie.close (tie.spec read2-requires returns returns-2)

@@ -1,0 +1,78 @@
+-- `judge::escaped`: by cases on the escape; where the application tag is another than FFFFh, the reference tag is not asked for.
+-- Assumes nothing.
+use mathlib.Core.Path.{_≡_, refl}
+use mathlib.Core.Bool.{false}
+use mathlib.Core.List.{List}
+use Prim.Native.Nat.{ℕ}
+use lib.Dec.{eqb}
+use borrow.Author.Needs.{needs}
+use borrow.Author.Tests.{eq-eqb, ne-eqb}
+use Rattle.words.specs.BigEndian.{numberAt}
+use Rattle.judge.specs.declared.Escape.{Escape}
+use Rattle.judge.specs.declared.Escape.the-variants.{Never, Tag, Both}
+use Rattle.judge.specs.Judge.{escapes, storedApplication, storedReference}
+use Rattle.judge.proofs.escaped.Statement.{statement}
+use Rattle.judge.proofs.escaped.Tie as tie
+
+module _ (e : Escape) (f : List ℕ) where
+  none : e ≡ Never → false ≡ escapes e f
+  unfolding escapes
+  none m = rw m refl
+
+  module _ (n : ℕ) (a : n ≡ numberAt 2 2 f) where
+    tagged : e ≡ Tag → eqb n 0xFFFF ≡ escapes e f
+    unfolding escapes storedApplication
+    tagged m = rw (m, a) refl
+
+    half : e ≡ Both → (n ≡ 0xFFFF → ⊥) → false ≡ escapes e f
+    unfolding escapes storedApplication
+    half m d = rw (m, ← a, ne-eqb n 0xFFFF d) refl
+
+    both : (m : ℕ) → e ≡ Both → n ≡ 0xFFFF → m ≡ numberAt 4 4 f → eqb m 0xFFFFFFFF ≡ escapes e f
+    unfolding escapes storedApplication storedReference
+    both m b s w = rw (b, ← a, eq-eqb n 0xFFFF s, w) refl
+
+enum-told : tie.Need-enum-told
+enum-told c = search needs
+
+enum-told-2 : tie.Need-enum-told-2
+enum-told-2 c = search needs
+
+read2-requires : tie.Need-read2-requires
+read2-requires c κs = search needs
+
+enum-told-3 : tie.Need-enum-told-3
+enum-told-3 c = search needs
+
+read2-requires-2 : tie.Need-read2-requires-2
+read2-requires-2 c κs = search needs
+
+returns : tie.Need-returns
+returns c = search half
+
+read4-requires : tie.Need-read4-requires
+read4-requires c κs = search needs
+
+returns-2 : tie.Need-returns-2
+returns-2 c = search none
+
+returns-3 : tie.Need-returns-3
+returns-3 c = search tagged
+
+returns-4 : tie.Need-returns-4
+returns-4 c = search both
+
+pub escaped-spec : {M : Type 1} → statement M
+escaped-spec =
+    tie.close
+    (tie.spec
+    enum-told
+    enum-told-2
+    read2-requires
+    enum-told-3
+    read2-requires-2
+    returns
+    read4-requires
+    returns-2
+    returns-3
+    returns-4)

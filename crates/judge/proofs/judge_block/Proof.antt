@@ -1,0 +1,24 @@
+-- `judge::judge_block`: by the escape, the laws of a block.
+-- Assumes nothing.
+use mathlib.Core.Path.{sym, _∙_}
+use native.Mathlib.Nat.{one-mul}
+use Rattle.judge.proofs.BlockLaws.{block-escaped, block-judged}
+use borrow.Author.Needs.{needs}
+use Rattle.judge.proofs.judge_block.Statement.{statement}
+use Rattle.judge.proofs.judge_block.Tie as tie
+
+any-escaped-requires : tie.Need-any-escaped-requires
+any-escaped-requires c κs = sym (one-mul _) ∙ c .before .pre .1 .whole
+
+returns : tie.Need-returns
+returns c = sym (block-escaped _ _ _ (sym (c .before .any-escaped .ensures) ∙ c .if1 .taken))
+
+judge-intervals-requires : tie.Need-judge-intervals-requires
+judge-intervals-requires c κs = search needs
+
+returns-2 : tie.Need-returns-2
+returns-2 c = c .judge-intervals .ensures ∙ sym (block-judged _ _ _ (sym (c .before .before .any-escaped .ensures) ∙ c .before .if1 .left))
+
+pub judge-block-spec : {M : Type 1} → statement M
+judge-block-spec =
+    tie.close (tie.spec any-escaped-requires returns judge-intervals-requires returns-2)

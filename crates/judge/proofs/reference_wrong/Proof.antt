@@ -1,0 +1,21 @@
+-- `judge::reference_wrong`: a checked tag is compared with that of the place, one that is not checked is not wrong.
+-- Assumes nothing.
+use Rattle.judge.specs.Judge.{referenceWrong, storedReference}
+use Rattle.judge.proofs.PieceLaws.{checked, unchecked}
+use borrow.Author.Needs.{needs}
+use Rattle.judge.proofs.reference_wrong.Statement.{statement}
+use Rattle.judge.proofs.reference_wrong.Tie as tie
+
+read4-requires : tie.Need-read4-requires
+read4-requires c κs = search needs
+
+returns : tie.Need-returns
+unfolding referenceWrong storedReference
+returns c = search checked
+
+returns-2 : tie.Need-returns-2
+unfolding referenceWrong storedReference
+returns-2 c = search unchecked
+
+pub reference-wrong-spec : {M : Type 1} → statement M
+reference-wrong-spec = tie.close (tie.spec read4-requires returns returns-2)
