@@ -75,3 +75,9 @@ pub decimal-next : (k n : ℕ) {d at m r : ℕ} {out mid left : List ℕ} → (k
 unfolding decimalIn
 decimal-next zero n h l e p q = absurd (h refl)
 decimal-next (suc k) n h l e p q = let down : suc k - 1 ≡ k = omega arith in rw (le-ltb n 10 l) (written-then (rw down at p) (rw e at q))
+
+pub decimal-then-end : (n b : ℕ) {at r : ℕ} {out left : List ℕ} → Written (decimal n ++ (b ∷ [])) at out r left → r ≤ at + 21
+decimal-then-end n b w = omega (arith, w .end, decimal-most n, length-append (decimal n) (b ∷ []))
+
+pub hexadecimal-then-end : (k n b : ℕ) {at r : ℕ} {out left : List ℕ} → Written (hexadecimal k n ++ (b ∷ [])) at out r left → r ≡ at + (k + 1)
+hexadecimal-then-end k n b w = omega (arith, w .end, hexadecimal-length k n, length-append (hexadecimal k n) (b ∷ []))

@@ -71,3 +71,7 @@ written-then {a} {b} {at} {m} {r} {out} {mid} {left} p q =
 
 pub written-length : {a : List ℕ} {at r : ℕ} {out left : List ℕ} → Written a at out r left → length left ≡ length out
 written-length {a} {at} {r} {out} p = ap length (p .now) ∙ laid-length at a out
+
+-- the same text, put in another way
+pub written-as : {a b : List ℕ} {at r : ℕ} {out left : List ℕ} → a ≡ b → Written a at out r left → Written b at out r left
+written-as e w = rw e at w

@@ -1,6 +1,6 @@
 // Words and numbers, printed to a lent buffer: of the text as much as there is room for, and the place after it handed back.
 ghost use mathlib.Core.Path.{_≡_};
-ghost use mathlib.Core.List.{_∷_, []};
+ghost use mathlib.Core.List.{_∷_, [], _++_};
 ghost use Prim.Native.Nat.{_+_, _≤_, _<_, _^_};
 ghost use lib.ListN.{length};
 ghost use Rattle.text.specs.Text.{digit, hexadecimal, decimalIn, decimal};
@@ -76,4 +76,21 @@ pub fn decimal(out: &mut [u8], at: usize, n: u64) -> usize
     ensures { λ r. ⌜ Written (decimal n) at (now (out .entry)) r (now (out .exit)) ⌝ }
 {
     decimal_in(out, at, 20, n)
+}
+
+// A number, and one byte behind it.
+pub fn decimal_then(out: &mut [u8], at: usize, n: u64, b: u8) -> usize
+    requires { ⌜ at + 21 ≤ 2 ^ 32 ⌝ }
+    ensures { λ r. ⌜ Written (decimal n ++ (b ∷ [])) at (now (out .entry)) r (now (out .exit)) ⌝ }
+{
+    let end = decimal(out, at, n);
+    put(out, end, b)
+}
+
+pub fn hexadecimal_then(out: &mut [u8], at: usize, k: usize, n: u64, b: u8) -> usize
+    requires { ⌜ at + k < 2 ^ 32 ⌝ }
+    ensures { λ r. ⌜ Written (hexadecimal k n ++ (b ∷ [])) at (now (out .entry)) r (now (out .exit)) ⌝ }
+{
+    let end = hexadecimal(out, at, k, n);
+    put(out, end, b)
 }

@@ -1,49 +1,20 @@
--- "The listing program": what is printed of a record.
-use Prim.Native.Nat.{ℕ, zero, suc, _+_, _*_}
-use mathlib.Core.Bool.{Bool, true, false, _||_, cond}
+-- The lines of the listing: their states, their text and how many there are.
+use Prim.Native.Nat.{ℕ, zero, suc, _+_, _*_, _≤_, _^_}
+use mathlib.Core.Bool.{Bool, cond}
 use mathlib.Core.List.{List, [], _∷_, _++_}
 use mathlib.Core.Path.{_≡_}
-use lib.Dec.{eqb}
-use lib.ListN.{length, take, drop}
-use Rattle.answer.specs.Answer.{numberOf, isGood}
+use lib.ListN.{length, drop}
 use Rattle.answer.specs.declared.Answer.{Answer}
 use Rattle.answer.specs.declared.Answer.the-variants as answers
-use Rattle.segment.specs.declared.Description.{Description}
-use Rattle.segment.specs.Segment.{intervalsOf, sizeOf, storedOf}
-use Rattle.command.specs.declared.Command.{Command}
-use Rattle.command.specs.declared.Operation.the-variants.{Read}
 use Rattle.judge.specs.declared.Rules.{Rules}
 use Rattle.judge.specs.declared.Place.{Place}
 use Rattle.judge.specs.Judge.{storedGuard, storedApplication, storedReference, fieldOf, anyEscapes, judgeInterval, nextInterval, nextBlock}
-use Rattle.checks.specs.Checks.{rulesOf, startOf}
-use Rattle.listing.specs.Text.{hexadecimal, decimal}
-use Rattle.listing.specs.Record.{recordAnswer, describedBy, segmentIn}
+use Rattle.text.specs.Text.{hexadecimal, decimal}
+use Rattle.text.specs.Laid.{Written}
+use Rattle.listing.specs.declared.Line.{Line}
+use Rattle.listing.specs.declared.Sheet.{Sheet}
 use Rattle.listing.specs.declared.State.{State}
 use Rattle.listing.specs.declared.State.the-variants.{Skipped, Guard, Ref, Ok}
-
--- A line of the listing, before it is printed.
-pub record Line : Type 0 where
-  pub address : ℕ
-  pub interval : ℕ
-  pub guard : ℕ
-  pub application : ℕ
-  pub reference : ℕ
-  pub state : State
-
--- The states are those of a READ (16) of the whole segment with code 001: the guard is checked, and in type 1 the reference.
-unfoldable pub readAll : Description → Command
-readAll d =
-    record {
-      operation = Read;
-      long = false;
-      code = 0b001;
-      check = 0;
-      address = d .first;
-      length = d .count;
-      tag = 0;
-      application = 0;
-      mask = 0;
-    }
 
 -- what judging says of an interval, as a word of the listing
 abbrev pub worded : Answer → State
@@ -84,16 +55,16 @@ intervalLines r skipped zero i p s = []
 intervalLines r skipped (suc k) i p s =
     lineOf r skipped i p s ∷ intervalLines r skipped k (i + 1) (nextInterval p) (drop (r .size + 8) s)
 
+-- the lines of a block
+unfoldable pub linesIn : Rules → Place → List ℕ → List Line
+linesIn r p s = intervalLines r (anyEscapes (r .escape) (r .size) (r .intervals) s) (r .intervals) 0 p s
+
 -- the lines of k blocks
 unfoldable pub blockLines : Rules → ℕ → Place → List ℕ → List Line
 blockLines r zero p s = []
 blockLines r (suc k) p s =
-    intervalLines r (anyEscapes (r .escape) (r .size) (r .intervals) s) (r .intervals) 0 p s
+    linesIn r p s
     ++ blockLines r k (nextBlock (r .intervals) p) (drop (r .intervals * (r .size + 8)) s)
-
--- "Type 0 has no interval lines."
-unfoldable pub linesOf : Description → List ℕ → List Line
-linesOf d s = cond (eqb (d .kind) 0) [] (blockLines (rulesOf d (readAll d)) (d .count) (startOf d (readAll d)) s)
 
 -- how many lines are in a state
 abbrev pub faulty : State → ℕ
@@ -152,25 +123,18 @@ totalText ls =
     intervalsText ++ (decimal (length ls) ++ (faultsText ++ (decimal (countOf faulty ls)
     ++ (skippedText ++ (decimal (countOf skips ls) ++ (0x0A ∷ []))))))
 
--- "Unless refused, header and last line stand"
-unfoldable pub listedText : Description → List ℕ → List ℕ
-listedText d s = headerText ++ (linesText (linesOf d s) ++ totalText (linesOf d s))
+-- ---- what the functions that print lines hand back, and what they ask
 
--- "a refusal prints one line only, `refused`, a space and the number"
-unfoldable pub refusedText : Answer → List ℕ
-refusedText a = 0x72 ∷ 0x65 ∷ 0x66 ∷ 0x75 ∷ 0x73 ∷ 0x65 ∷ 0x64 ∷ 0x20 ∷ decimal (numberOf a) ++ (0x0A ∷ [])
+-- the lines ls were printed from t's place on, and counted
+pub record Printed (ls : List Line) (t : Sheet) (out : List ℕ) (u : Sheet) (left : List ℕ) : Type 0 where
+  pub text : Written (linesText ls) (t .at) out (u .at) left
+  pub lines : u .lines ≡ t .lines + length ls
+  pub faults : u .faults ≡ t .faults + countOf faulty ls
+  pub skipped : u .skipped ≡ t .skipped + countOf skips ls
 
--- exactly the bytes to be printed of a record
-unfoldable pub listing : List ℕ → List ℕ
-listing input =
-    cond (isGood (recordAnswer input)) (listedText (describedBy input) (segmentIn input)) (refusedText (recordAnswer input))
-
--- what a lent buffer holds after text was written to it from a place on: of the text, as much as there is room for
-unfoldable pub laid : ℕ → List ℕ → List ℕ → List ℕ
-laid at text out = take (length out) (take at out ++ (text ++ drop (at + length text) out))
-
--- what is answered, and what the lent buffer then holds: the number of bytes of the whole listing, and of these as many as the
--- buffer has room for; what lies behind them stays
-pub record Listed (input out : List ℕ) (r : ℕ) (left : List ℕ) : Type 0 where
-  pub count : r ≡ length (listing input)
-  pub text : left ≡ laid 0 (listing input) out
+-- the sheet's numbers have room for k lines more, of at most 69 bytes each
+pub record Room (t : Sheet) (k : ℕ) : Type 0 where
+  pub at : t .at + k * 69 ≤ 2 ^ 31
+  pub lines : t .lines + k ≤ 2 ^ 31
+  pub faults : t .faults + k ≤ 2 ^ 31
+  pub skipped : t .skipped + k ≤ 2 ^ 31
