@@ -8,6 +8,7 @@ pub enum Admitted {
     Refused(Answer),
     Go(Command),
 }
+
 use answer::Answer;
 use command::Command;
 use command::Decoded;

@@ -13,18 +13,18 @@ use Rattle.judge.specs.declared.Rules.{Rules}
 use Rattle.judge.specs.declared.Place.{Place}
 use Rattle.checks.specs.declared.Columns.{Columns}
 
-abbrev columns : Bool → Bool → Bool → Columns
-columns g a r = record { guard = g; application = a; reference = r }
+abbrev pub columnsIn : Bool → Bool → Bool → Columns
+columnsIn g a r = record { guard = g; application = a; reference = r }
 
 -- | code | guard | application | reference |; codes 110 and 111 are refused before they get here
 unfoldable pub columnsOf : ℕ → Columns
 columnsOf code =
-    cond (eqb code 0b000) (columns true true true)
-    (cond (eqb code 0b001) (columns true true true)
-    (cond (eqb code 0b010) (columns false true true)
-    (cond (eqb code 0b011) (columns false false false)
-    (cond (eqb code 0b100) (columns true false false)
-    (cond (eqb code 0b101) (columns true true true) (columns false false false))))))
+    cond (eqb code 0b000) (columnsIn true true true)
+    (cond (eqb code 0b001) (columnsIn true true true)
+    (cond (eqb code 0b010) (columnsIn false true true)
+    (cond (eqb code 0b011) (columnsIn false false false)
+    (cond (eqb code 0b100) (columnsIn true false false)
+    (cond (eqb code 0b101) (columnsIn true true true) (columnsIn false false false))))))
 
 -- "Application: only with a 32-byte command and ATO 1"
 unfoldable pub applicationKnown : Description → Command → Bool

@@ -1,8 +1,9 @@
 // What a transfer checks and inserts: from the description and the command to the rules of judging, the first tags and the
 // marks of new fields.
 ghost use mathlib.Core.Path.{_≡_};
+ghost use mathlib.Core.Bool.{_&&_};
 ghost use Rattle.segment.specs.Segment.{Segment};
-ghost use Rattle.checks.specs.Checks.{columnsOf, applicationKnown, referenceKnown, firstTag, escapeOf, rulesOf, startOf};
+ghost use Rattle.checks.specs.Checks.{columnsIn, columnsOf, applicationKnown, referenceKnown, firstTag, escapeOf, rulesOf, startOf};
 ghost use Rattle.checks.specs.Inserted.{insertedApplication, insertedReference, marksOf};
 use blocks::Marks;
 use command::Command;
@@ -19,37 +20,43 @@ pub struct Columns {
     pub reference: bool,
 }
 
+fn of_columns(guard: bool, application: bool, reference: bool) -> Columns
+    ensures { λ r. ⌜ r ≡ columnsIn guard application reference ⌝ }
+{
+    Columns {
+        guard: guard,
+        application: application,
+        reference: reference,
+    }
+}
+
 fn chosen(code: u8) -> Columns
     ensures { λ r. ⌜ r ≡ columnsOf code ⌝ }
 {
     match code {
-        0b000 | 0b001 | 0b101 => Columns {
-            guard: true,
-            application: true,
-            reference: true,
-        },
-        0b010 => Columns {
-            guard: false,
-            application: true,
-            reference: true,
-        },
-        0b100 => Columns {
-            guard: true,
-            application: false,
-            reference: false,
-        },
-        _ => Columns {
-            guard: false,
-            application: false,
-            reference: false,
-        },
+        0b000 => of_columns(true, true, true),
+        0b001 => of_columns(true, true, true),
+        0b010 => of_columns(false, true, true),
+        0b011 => of_columns(false, false, false),
+        0b100 => of_columns(true, false, false),
+        0b101 => of_columns(true, true, true),
+        _ => of_columns(false, false, false),
     }
+}
+
+fn both(a: bool, b: bool) -> bool
+    ensures { λ r. ⌜ r ≡ (a && b) ⌝ }
+{
+    if a {
+        return b;
+    }
+    false
 }
 
 fn application_known(d: Description, c: Command) -> bool
     ensures { λ r. ⌜ r ≡ applicationKnown d c ⌝ }
 {
-    if c.long { d.ato == 1 } else { false }
+    both(c.long, d.ato == 1)
 }
 
 fn reference_known(d: Description, c: Command) -> bool
@@ -97,16 +104,8 @@ pub fn rules(d: Description, c: Command) -> Rules
 {
     let columns = chosen(c.code);
     let o = c.operation;
-    let application = if columns.application {
-        application_known(d, c)
-    } else {
-        false
-    };
-    let reference = if columns.reference {
-        reference_known(d, c)
-    } else {
-        false
-    };
+    let application = both(columns.application, application_known(d, c));
+    let reference = both(columns.reference, reference_known(d, c));
     Rules {
         intervals: segment::intervals(d),
         size: segment::size(d),

@@ -26,13 +26,17 @@ interval-within k i size n h e = rw (add-assoc i size 8) (peel-within k i (size 
 pub interval-rest : (k i size n : ℕ) → 0 < k → i + k * (size + 8) ≡ n → i + size + 8 + (k - 1) * (size + 8) ≡ n
 interval-rest k i size n h e = rw (add-assoc i size 8) (peel-rest k i (size + 8) n h e)
 
+-- a part that is cut from i on
+pub part-at : (i n : ℕ) (s : List ℕ) → take (i + n - i) (drop i s) ≡ take n (drop i s)
+part-at i n s = let same : i + n - i ≡ n = omega arith in rw same refl
+
 pub data-part : (i size : ℕ) (s : List ℕ) → take (i + size - i) (drop i s) ≡ dataOf size (drop i s)
 unfolding dataOf
-data-part i size s = let same : i + size - i ≡ size = omega arith in rw same refl
+data-part = part-at
 
 pub field-part : (i size : ℕ) (s : List ℕ) → take (i + size + 8 - (i + size)) (drop (i + size) s) ≡ fieldOf size (drop i s)
 unfolding fieldOf
-field-part i size s = let same : i + size + 8 - (i + size) ≡ 8 = omega arith in rw (same, drop-drop) refl
+field-part i size s = rw drop-drop (part-at (i + size) 8 s)
 
 -- an interval's parts are its own bytes
 own-data : (size : ℕ) (s : List ℕ) → dataOf size (take (size + 8) s) ≡ dataOf size s

@@ -9,10 +9,10 @@ use native.Mathlib.Nat.{suc-add, suc-mul, zero-mul, zero-add, add-comm, le-of-su
 use native.Mathlib.Omega.{arith}
 use lib.ListN.{take, drop}
 use lib.Seq.{drop-drop, take-nil, take-take}
-use Rattle.answer.specs.Answer.{isGood}
+use Rattle.answer.specs.Answer.{isGood, orElse}
 use Rattle.answer.specs.declared.Answer.{Answer}
 use Rattle.answer.specs.declared.Answer.the-variants as answers
-use Rattle.judge.specs.FirstOf.{firstOf, orElse}
+use Rattle.judge.specs.FirstOf.{firstOf}
 
 -- the value after `next` was taken j times
 unfoldable pub after : {A : Type 0} → (A → A) → ℕ → A → A

@@ -1,15 +1,10 @@
 -- The first refusal of a run of pieces.
 use Prim.Native.Nat.{ℕ, zero, suc}
-use mathlib.Core.Bool.{cond}
 use mathlib.Core.List.{List}
 use lib.ListN.{drop}
-use Rattle.answer.specs.Answer.{isGood}
+use Rattle.answer.specs.Answer.{orElse}
 use Rattle.answer.specs.declared.Answer.{Answer}
 use Rattle.answer.specs.declared.Answer.the-variants as answers
-
--- the first of two answers that is not good
-abbrev pub orElse : Answer → Answer → Answer
-orElse a b = cond (isGood a) b a
 
 -- k pieces: each is judged from what stands at its place in the list, P elements after the one before, and from a value t that `next` moves on
 unfoldable pub firstOf : {A : Type 0} → (A → List ℕ → Answer) → (A → A) → ℕ → ℕ → A → List ℕ → Answer

@@ -1,1 +1,4 @@
 pub mod Stripe
+pub mod Stretch
+pub mod Error
+pub mod Cases

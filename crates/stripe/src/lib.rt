@@ -1,37 +1,190 @@
 // Parity of up to sixteen members, rebuilding a lost part, correcting parity.
 ghost use mathlib.Core.Path.{_≡_};
+<<<<<<< HEAD
 ghost use Prim.Native.Nat.{_*_};
 ghost use lib.ListN.{length};
 ghost use Rattle.stripe.specs.Stripe.{xorParts, striped, madeOf, restoredOf, mendedOf};
+=======
+ghost use Prim.Native.Nat.{_+_, _*_, _≤_, _<_};
+ghost use lib.ListN.{length, take, drop, replicate};
+ghost use Rattle.stripe.specs.Stretch.{strided, joined};
+ghost use Rattle.stripe.specs.Stripe.{rebuiltOf, correctedOf, striped, madeOf, restoredOf, mendedOf};
+>>>>>>> stripe
 use answer::Answer;
 use segment::Description;
 
-// Takes the exclusive or of `count` parts, each as long as `out`, into `out`: a stretch of `out` at a time, so that it stays near
-// while all parts are gone through.
-fn xor_parts(out: &mut [u8], parts: &[u8], count: usize)
-    requires { ⌜ count * length (now out) ≡ length (now parts) ⌝ }
-    ensures { λ _. ⌜ now (out .exit) ≡ xorParts (length (now (out .entry))) count (now (out .entry)) (now (parts .entry)) ⌝ }
+// Zeroes `d`.
+fn clear(d: &mut [u8])
+    ensures { λ _. ⌜ now (d .exit) ≡ replicate (length (now (d .entry))) 0 ⌝ }
 {
-    // ..
+    let mut i: usize = 0;
+    while i < d.len() {
+        d[i] = 0;
+        i += 1;
+    }
+}
+
+// Takes into `piece`, the stretch of an output that begins at `at`, the exclusive or of the same stretch of `count` parts of `long` bytes.
+fn xor_stretch(piece: &mut [u8], at: usize, parts: &[u8], long: usize, count: usize)
+    requires { ⌜ (at + length (now piece) ≤ long) × (count * long ≡ length (now parts)) ⌝ }
+    ensures { λ _. ⌜ now (piece .exit) ≡ strided long (length (now (piece .entry))) count (now (piece .entry)) (drop at (now (parts .entry))) ⌝ }
+{
+    let mut left = count;
+    let mut i: usize = 0;
+    while 0 < left {
+        let from = i + at;
+        let end = from + piece.len();
+        words::xor_into(piece, &parts[from..end]);
+        i += long;
+        left -= 1;
+    }
+}
+
+// Makes `piece`, the stretch of an output that begins at `at`, the same stretch of the exclusive or of `m` parts and `n` parts of `long` bytes.
+fn join_stretch(
+    piece: &mut [u8],
+    at: usize,
+    long: usize,
+    before: &[u8],
+    m: usize,
+    after: &[u8],
+    n: usize,
+)
+    requires { ⌜ (at + length (now piece) ≤ long) × ((m * long ≡ length (now before)) × (n * long ≡ length (now after))) ⌝ }
+    ensures { λ _. ⌜ now (piece .exit) ≡ take (length (now (piece .entry))) (drop at (joined long m (now (before .entry)) n (now (after .entry)))) ⌝ }
+{
+    clear(piece);
+    xor_stretch(piece, at, before, long, m);
+    xor_stretch(piece, at, after, long, n);
+}
+
+// The end of the stretch that begins at `at`: at most 4,096 bytes, so that it stays near while all parts are gone through.
+fn stretch_end(at: usize, long: usize) -> usize
+    requires { ⌜ at < long ⌝ }
+    ensures { λ r. ⌜ (at < r) × (r ≤ long) ⌝ }
+{
+    if long - at < 4096 {
+        return long;
+    }
+    at + 4096
+}
+
+// Makes `out` the exclusive or of `m` parts and `n` parts, each as long as `out`.
+fn join(out: &mut [u8], before: &[u8], m: usize, after: &[u8], n: usize)
+    requires { ⌜ (m * length (now out) ≡ length (now before)) × (n * length (now out) ≡ length (now after)) ⌝ }
+    ensures { λ _. ⌜ now (out .exit) ≡ joined (length (now (out .entry))) m (now (before .entry)) n (now (after .entry)) ⌝ }
+{
+    let long = out.len();
+    let mut at: usize = 0;
+    while at < long {
+        let end = stretch_end(at, long);
+        join_stretch(&mut out[at..end], at, long, before, m, after, n);
+        at = end;
+    }
+}
+
+// Makes `out` part `lost` of `count` parts and their parity, each as long as `out`: the exclusive or of the parts before it and those after it.
+fn restore(out: &mut [u8], parts: &[u8], count: usize, lost: usize)
+    requires { ⌜ (lost ≤ count) × (length (now parts) ≡ (count + 1) * length (now out)) ⌝ }
+    ensures { λ _. ⌜ now (out .exit) ≡ rebuiltOf (length (now (out .entry))) count lost (now (parts .entry)) ⌝ }
+{
+    let long = out.len();
+    let end = lost * long;
+    let next = end + long;
+    join(out, &parts[..end], lost, &parts[next..], count - lost);
+}
+
+// Takes `old` out of `parity` and `new` into it.
+fn exchange(parity: &mut [u8], old: &[u8], new: &[u8])
+    requires { ⌜ (length (now old) ≡ length (now parity)) × (length (now new) ≡ length (now parity)) ⌝ }
+    ensures { λ _. ⌜ now (parity .exit) ≡ correctedOf (now (old .entry)) (now (new .entry)) (now (parity .entry)) ⌝ }
+{
+    let mut i: usize = 0;
+    while i < old.len() {
+        parity[i] = parity[i] ^ old[i] ^ new[i];
+        i += 1;
+    }
 }
 
 // Makes the parity of `k` members in `out`.
 pub fn make(d: Description, k: u64, members: &[u8], out: &mut [u8]) -> Answer
     ensures { λ r. ⌜ striped r (now (out .exit)) ≡ madeOf d k (now (members .entry)) (now (out .entry)) ⌝ }
 {
-    // ..
+    if !segment::fit(d) {
+        return Answer::Description;
+    }
+    if d.kind == 0 {
+        return Answer::Stripe;
+    }
+    if k < 1 {
+        return Answer::Stripe;
+    }
+    if 16 < k {
+        return Answer::Stripe;
+    }
+    let count = k as usize;
+    let long = segment::length(d);
+    if members.len() != count * long {
+        return Answer::Stripe;
+    }
+    if out.len() != long {
+        return Answer::Stripe;
+    }
+    join(out, members, count, &members[..0], 0);
+    Answer::Good
 }
 
 // Rebuilds part `lost` of `k` members and their parity in `out`.
 pub fn rebuild(d: Description, k: u64, lost: u64, parts: &[u8], out: &mut [u8]) -> Answer
     ensures { λ r. ⌜ striped r (now (out .exit)) ≡ restoredOf d k lost (now (parts .entry)) (now (out .entry)) ⌝ }
 {
-    // ..
+    if !segment::fit(d) {
+        return Answer::Description;
+    }
+    if d.kind == 0 {
+        return Answer::Stripe;
+    }
+    if k < 1 {
+        return Answer::Stripe;
+    }
+    if 16 < k {
+        return Answer::Stripe;
+    }
+    if k < lost {
+        return Answer::Stripe;
+    }
+    let count = k as usize;
+    let long = segment::length(d);
+    if parts.len() != (count + 1) * long {
+        return Answer::Stripe;
+    }
+    if out.len() != long {
+        return Answer::Stripe;
+    }
+    restore(out, parts, count, lost as usize);
+    Answer::Good
 }
 
 // Corrects `parity` where one member's bytes `old` became `new`.
 pub fn correct(d: Description, old: &[u8], new: &[u8], parity: &mut [u8]) -> Answer
     ensures { λ r. ⌜ striped r (now (parity .exit)) ≡ mendedOf d (now (old .entry)) (now (new .entry)) (now (parity .entry)) ⌝ }
 {
-    // ..
+    if !segment::fit(d) {
+        return Answer::Description;
+    }
+    if d.kind == 0 {
+        return Answer::Stripe;
+    }
+    let long = segment::length(d);
+    if old.len() != long {
+        return Answer::Stripe;
+    }
+    if new.len() != long {
+        return Answer::Stripe;
+    }
+    if parity.len() != long {
+        return Answer::Stripe;
+    }
+    exchange(parity, old, new);
+    Answer::Good
 }

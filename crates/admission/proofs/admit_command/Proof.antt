@@ -1,26 +1,36 @@
+-- `admission::admit_command`: a good answer of the rules goes on.
+-- Assumes nothing.
+use mathlib.Core.Path.{_≡_, sym, _∙_}
+use mathlib.Core.Bool.{Bool, true, false}
+use Prim.Native.Nat.{ℕ}
+use Rattle.answer.specs.Answer.{isGood}
+use Rattle.answer.specs.declared.Answer.{Answer}
+use Rattle.segment.specs.declared.Description.{Description}
+use Rattle.command.specs.declared.Command.{Command}
+use Rattle.admission.specs.declared.Admitted.the-variants.{Refused, Go}
+use Rattle.admission.specs.Admission.{refusal, admitCommand}
 use borrow.Author.Needs.{needs}
 use Rattle.admission.proofs.admit_command.Statement.{statement}
 use Rattle.admission.proofs.admit_command.Tie as tie
-use Rattle.admission.proofs.admit_command.Reads as reads
-use Rattle.admission.proofs.admit_command.Lts as lts
-use Rattle.admission.proofs.refused.Reads as refused-reads
-use Rattle.answer.proofs.good.Reads as good-reads
 
--- src/lib.rt:162:9
+module _ (d : Description) (k : Command) (b : ℕ) (a : Answer) (g : Bool) (e : a ≡ refusal d k b) (t : g ≡ isGood a) where
+  went : g ≡ true → admitCommand d k b ≡ Go k
+  went y = rw (← e, sym t ∙ y)
+
+  refuses : g ≡ false → admitCommand d k b ≡ Refused a
+  refuses y = rw (← e, sym t ∙ y)
+
 refused-requires : tie.Need-refused-requires
 refused-requires c κs = search needs
 
--- src/lib.rt:163:8
 good-requires : tie.Need-good-requires
 good-requires c κs = search needs
 
--- src/lib.rt:164:9
 returns : tie.Need-returns
-returns c = search needs
+returns c = sym (went _ _ _ _ _ (c .before .before .refused .ensures) (c .before .good2 .ensures) (c .if1 .taken))
 
--- src/lib.rt:158:1
 returns-2 : tie.Need-returns-2
-returns-2 c = search needs
+returns-2 c = sym (refuses _ _ _ _ _ (c .before .before .refused .ensures) (c .before .good2 .ensures) (c .if1 .left))
 
 pub admit-command-spec : {M : Type 1} → statement M
 admit-command-spec = tie.close (tie.spec refused-requires good-requires returns returns-2)

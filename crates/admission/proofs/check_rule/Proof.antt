@@ -20,13 +20,13 @@ returns : tie.Need-returns
 returns c = sym (check-zero _ (c .if1 .taken))
 
 returns-2 : tie.Need-returns-2
-returns-2 c = sym (check-other _ (ap isVerify (c .enum-told .given)))
+returns-2 c = sym (check-other _ (ap isVerify (c .enum-told .given .1)))
 
 returns-3 : tie.Need-returns-3
-returns-3 c = sym (check-other _ (ap isVerify (c .enum-told2 .given)))
+returns-3 c = sym (check-other _ (ap isVerify (c .enum-told2 .given .1)))
 
 returns-4 : tie.Need-returns-4
-returns-4 c = sym (check-some _ (ap isVerify (c .before .before .enum-told3 .given)) (c .if1 .left))
+returns-4 c = sym (check-some _ (ap isVerify (c .before .before .enum-told3 .given .1)) (c .if1 .left))
 
 pub check-rule-spec : {M : Type 1} → statement M
 check-rule-spec =

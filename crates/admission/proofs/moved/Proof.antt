@@ -9,7 +9,7 @@ use Rattle.admission.proofs.moved.Statement.{statement}
 use Rattle.admission.proofs.moved.Tie as tie
 
 mul-result : tie.Need-mul-result
-mul-result c = omega (arith, moved-most _ _ (c .before .before .before .before .pre .0) (c .before .before .before .before .pre .1) .0)
+mul-result c = omega (arith, moved-most _ (c .before .before .before .before .args .c) (c .before .before .before .before .pre .0) (c .before .before .before .before .pre .1) .0)
 
 returns : tie.Need-returns
 returns c = sym (moved-plain _ _ (c .before .before .if1 .taken))
@@ -18,7 +18,7 @@ stored-requires : tie.Need-stored-requires
 stored-requires c κs = search needs
 
 mul-result-2 : tie.Need-mul-result-2
-mul-result-2 c = rw (c .before .stored .ensures) (omega (arith, moved-most _ _ (c .before .before .before .before .pre .0) (c .before .before .before .before .pre .1) .1))
+mul-result-2 c = rw (c .before .stored .ensures) (omega (arith, moved-most _ (c .before .before .before .before .args .c) (c .before .before .before .before .pre .0) (c .before .before .before .before .pre .1) .1))
 
 returns-2 : tie.Need-returns-2
 returns-2 c = ap (λ (x : ℕ). c .before .before .before .before .args .c .length * x) (c .before .stored .ensures) ∙ sym (moved-whole _ _ (c .before .before .if1 .left))

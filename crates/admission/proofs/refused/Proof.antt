@@ -1,83 +1,90 @@
+-- `admission::refused`: rule after rule; the first that refuses answers.
+-- Assumes nothing.
+use mathlib.Core.Path.{sym, _∙_}
+use Rattle.admission.specs.Admission.{refusal}
+use Rattle.admission.proofs.Ladder.{stops, goes-on}
+use Rattle.admission.proofs.Ready.{short}
 use borrow.Author.Needs.{needs}
 use Rattle.admission.proofs.refused.Statement.{statement}
 use Rattle.admission.proofs.refused.Tie as tie
-use Rattle.admission.proofs.refused.Reads as reads
-use Rattle.admission.proofs.refused.Lts as lts
-use Rattle.admission.proofs.buffer_rule.Reads as buffer-rule-reads
-use Rattle.admission.proofs.check_rule.Reads as check-rule-reads
-use Rattle.admission.proofs.code_rule.Reads as code-rule-reads
-use Rattle.admission.proofs.range_rule.Reads as range-rule-reads
-use Rattle.admission.proofs.size_rule.Reads as size-rule-reads
-use Rattle.admission.proofs.type_rules.Reads as type-rules-reads
-use Rattle.answer.proofs.good.Reads as good-reads
 
--- src/lib.rt:135:9
 type-rules-requires : tie.Need-type-rules-requires
 type-rules-requires c κs = search needs
 
--- src/lib.rt:136:9
 good-requires : tie.Need-good-requires
 good-requires c κs = search needs
 
--- src/lib.rt:137:9
 returns : tie.Need-returns
-returns c = search needs
+unfolding refusal
+returns c = sym
+    (stops _ _ _ _ (c .before .before .type-rules .ensures) (c .before .good2 .ensures) (c .if1 .taken))
 
--- src/lib.rt:139:9
 code-rule-requires : tie.Need-code-rule-requires
 code-rule-requires c κs = search needs
 
--- src/lib.rt:140:9
 good-requires-2 : tie.Need-good-requires-2
 good-requires-2 c κs = search needs
 
--- src/lib.rt:141:9
 returns-2 : tie.Need-returns-2
-returns-2 c = search needs
+unfolding refusal
+returns-2 c = sym
+    (goes-on _ _ _ _ (c .before .before .before .before .before .type-rules .ensures) (c .before .before .before .before .good2 .ensures) (c .before .before .before .if1 .left)
+    ∙ stops _ _ _ _ (c .before .before .code-rule .ensures) (c .before .good3 .ensures) (c .if2 .taken))
 
--- src/lib.rt:143:9
 check-rule-requires : tie.Need-check-rule-requires
 check-rule-requires c κs = search needs
 
--- src/lib.rt:144:9
 good-requires-3 : tie.Need-good-requires-3
 good-requires-3 c κs = search needs
 
--- src/lib.rt:145:9
 returns-3 : tie.Need-returns-3
-returns-3 c = search needs
+unfolding refusal
+returns-3 c = sym
+    (goes-on _ _ _ _ (c .before .before .before .before .before .before .before .before .type-rules .ensures) (c .before .before .before .before .before .before .before .good2 .ensures) (c .before .before .before .before .before .before .if1 .left)
+    ∙ goes-on _ _ _ _ (c .before .before .before .before .before .code-rule .ensures) (c .before .before .before .before .good3 .ensures) (c .before .before .before .if2 .left)
+    ∙ stops _ _ _ _ (c .before .before .check-rule .ensures) (c .before .good4 .ensures) (c .if3 .taken))
 
--- src/lib.rt:147:9
 range-rule-requires : tie.Need-range-rule-requires
 range-rule-requires c κs = search needs
 
--- src/lib.rt:148:9
 good-requires-4 : tie.Need-good-requires-4
 good-requires-4 c κs = search needs
 
--- src/lib.rt:149:9
 returns-4 : tie.Need-returns-4
-returns-4 c = search needs
+unfolding refusal
+returns-4 c = sym
+    (goes-on _ _ _ _ (c .before .before .before .before .before .before .before .before .before .before .before .type-rules .ensures) (c .before .before .before .before .before .before .before .before .before .before .good2 .ensures) (c .before .before .before .before .before .before .before .before .before .if1 .left)
+    ∙ goes-on _ _ _ _ (c .before .before .before .before .before .before .before .before .code-rule .ensures) (c .before .before .before .before .before .before .before .good3 .ensures) (c .before .before .before .before .before .before .if2 .left)
+    ∙ goes-on _ _ _ _ (c .before .before .before .before .before .check-rule .ensures) (c .before .before .before .before .good4 .ensures) (c .before .before .before .if3 .left)
+    ∙ stops _ _ _ _ (c .before .before .range-rule .ensures) (c .before .good5 .ensures) (c .if4 .taken))
 
--- src/lib.rt:151:9
 size-rule-requires : tie.Need-size-rule-requires
-size-rule-requires c κs = search needs
+size-rule-requires c κs = (c .before .before .before .before .before .before .before .before .before .before .before .before .pre, short _ _ _ _ (c .before .before .before .before .before .before .before .before .before .before .before .before .pre) (c .before .before .range-rule .ensures) (c .before .good5 .ensures) (c .if4 .left))
 
--- src/lib.rt:152:9
 good-requires-5 : tie.Need-good-requires-5
 good-requires-5 c κs = search needs
 
--- src/lib.rt:153:9
 returns-5 : tie.Need-returns-5
-returns-5 c = search needs
+unfolding refusal
+returns-5 c = sym
+    (goes-on _ _ _ _ (c .before .before .before .before .before .before .before .before .before .before .before .before .before .before .type-rules .ensures) (c .before .before .before .before .before .before .before .before .before .before .before .before .before .good2 .ensures) (c .before .before .before .before .before .before .before .before .before .before .before .before .if1 .left)
+    ∙ goes-on _ _ _ _ (c .before .before .before .before .before .before .before .before .before .before .before .code-rule .ensures) (c .before .before .before .before .before .before .before .before .before .before .good3 .ensures) (c .before .before .before .before .before .before .before .before .before .if2 .left)
+    ∙ goes-on _ _ _ _ (c .before .before .before .before .before .before .before .before .check-rule .ensures) (c .before .before .before .before .before .before .before .good4 .ensures) (c .before .before .before .before .before .before .if3 .left)
+    ∙ goes-on _ _ _ _ (c .before .before .before .before .before .range-rule .ensures) (c .before .before .before .before .good5 .ensures) (c .before .before .before .if4 .left)
+    ∙ stops _ _ _ _ (c .before .before .size-rule .ensures) (c .before .good6 .ensures) (c .if5 .taken))
 
--- src/lib.rt:155:5
 buffer-rule-requires : tie.Need-buffer-rule-requires
-buffer-rule-requires c κs = search needs
+buffer-rule-requires c κs = (c .before .before .before .before .before .before .before .before .before .before .before .before .before .before .before .pre, short _ _ _ _ (c .before .before .before .before .before .before .before .before .before .before .before .before .before .before .before .pre) (c .before .before .before .before .before .range-rule .ensures) (c .before .before .before .before .good5 .ensures) (c .before .before .before .if4 .left))
 
--- src/lib.rt:131:1
 returns-6 : tie.Need-returns-6
-returns-6 c = search needs
+unfolding refusal
+returns-6 c = c .buffer-rule .ensures
+    ∙ sym
+    (goes-on _ _ _ _ (c .before .before .before .before .before .before .before .before .before .before .before .before .before .before .before .type-rules .ensures) (c .before .before .before .before .before .before .before .before .before .before .before .before .before .before .good2 .ensures) (c .before .before .before .before .before .before .before .before .before .before .before .before .before .if1 .left)
+    ∙ goes-on _ _ _ _ (c .before .before .before .before .before .before .before .before .before .before .before .before .code-rule .ensures) (c .before .before .before .before .before .before .before .before .before .before .before .good3 .ensures) (c .before .before .before .before .before .before .before .before .before .before .if2 .left)
+    ∙ goes-on _ _ _ _ (c .before .before .before .before .before .before .before .before .before .check-rule .ensures) (c .before .before .before .before .before .before .before .before .good4 .ensures) (c .before .before .before .before .before .before .before .if3 .left)
+    ∙ goes-on _ _ _ _ (c .before .before .before .before .before .before .range-rule .ensures) (c .before .before .before .before .before .good5 .ensures) (c .before .before .before .before .if4 .left)
+    ∙ goes-on _ _ _ _ (c .before .before .before .size-rule .ensures) (c .before .before .good6 .ensures) (c .before .if5 .left))
 
 pub refused-spec : {M : Type 1} → statement M
 refused-spec =

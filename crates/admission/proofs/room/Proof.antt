@@ -23,13 +23,13 @@ enum-told-3 : tie.Need-enum-told-3
 enum-told-3 c = search needs
 
 returns : tie.Need-returns
-returns c = c .moved .ensures ∙ sym (room-moved _ _ (ap isVerify (c .before .enum-told .given)))
+returns c = c .moved .ensures ∙ sym (room-moved _ _ (ap isVerify (c .before .enum-told .given .1)))
 
 returns-2 : tie.Need-returns-2
-returns-2 c = c .moved2 .ensures ∙ sym (room-moved _ _ (ap isVerify (c .before .enum-told2 .given)))
+returns-2 c = c .moved2 .ensures ∙ sym (room-moved _ _ (ap isVerify (c .before .enum-told2 .given .1)))
 
 returns-3 : tie.Need-returns-3
-returns-3 c = sym (room-verify _ _ (ap isVerify (c .enum-told3 .given)))
+returns-3 c = sym (room-verify _ _ (ap isVerify (c .enum-told3 .given .1)))
 
 pub room-spec : {M : Type 1} → statement M
 room-spec =

@@ -6,24 +6,21 @@ use mathlib.Core.List.{List}
 use Prim.Native.Nat.{ℕ, _+_, _*_, _≤_}
 use native.Mathlib.Nat.{mul-assoc, mul-le-mul}
 use native.Mathlib.Omega.{arith}
-use borrow.Author.Tests.{eq-eqb, ne-eqb, not-true, not-false}
+use borrow.Author.Tests.{eq-eqb, ne-eqb}
 use lib.Dec.{T}
 use lib.ListN.{length, replicate}
 use Rattle.answer.specs.declared.Answer.the-variants as answers
 use Rattle.segment.specs.declared.Description.{Description}
 use Rattle.segment.specs.Segment.{isSegment, Segment, intervalsOf, sizeOf, storedOf, lengthOf}
-use Rattle.segment.proofs.Laws.{segment-facts, is-segment, sizes, stored-intervals}
+use Rattle.segment.proofs.Laws.{described, undescribed, is-segment, sizes, stored-intervals}
 use Rattle.format.specs.Fresh.{filled, filledOf, fresh, freshIntervals}
 use borrow.Author.Needs.{needs}
 use Rattle.format.proofs.fill.Statement.{statement}
 use Rattle.format.proofs.fill.Tie as tie
 
-described : (d : Description) (r : Bool) → r ≡ isSegment d → not r ≡ false → Segment d
-described d r e n = segment-facts d (rw (sym e ∙ not-false r n) tt)
-
-undescribed : (d : Description) (s : List ℕ) (r : Bool) → r ≡ isSegment d → not r ≡ true → filled answers.Description s ≡ filledOf d s
+refused : (d : Description) (s : List ℕ) → isSegment d ≡ false → filled answers.Description s ≡ filledOf d s
 unfolding filledOf
-undescribed d s r e n = rw (sym e ∙ not-true r n)
+refused d s n = rw n
 
 unfit : (d : Description) (s : List ℕ) → Segment d → (length s ≡ lengthOf d → ⊥) → filled answers.Segment s ≡ filledOf d s
 unfolding filledOf
@@ -52,7 +49,7 @@ fit-requires : tie.Need-fit-requires
 fit-requires c κs = search needs
 
 returns : tie.Need-returns
-returns c = undescribed _ _ _ (c .before .fit .ensures) (c .if1 .taken)
+returns c = refused _ _ (undescribed _ _ (c .before .fit .ensures) (c .if1 .taken))
 
 length-requires : tie.Need-length-requires
 length-requires c κs = (described _ _ (c .before .fit .ensures) (c .if1 .left))

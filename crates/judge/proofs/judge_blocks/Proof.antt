@@ -16,7 +16,7 @@ use Rattle.judge.specs.declared.Place.{Place}
 use Rattle.judge.specs.FirstOf.{firstOf}
 use Rattle.judge.specs.Judge.{judgeBlock, judgeBlocks, nextBlock, Run}
 use Rattle.judge.proofs.FirstLaws.{first-next, first-stop, first-end}
-use Rattle.judge.proofs.BlockLaws.{own-block, run-within, run-one, run-next}
+use Rattle.judge.proofs.BlockLaws.{part-at, own-block, run-within, run-one, run-next}
 use borrow.Author.Needs.{needs}
 use Rattle.judge.proofs.judge_blocks.Statement.{statement}
 use Rattle.judge.proofs.judge_blocks.Tie as tie
@@ -37,11 +37,8 @@ module _ {r : Rules} {count : ℕ} {p : Place} {s : List ℕ} {left : ℕ} {here
   within : i + r .intervals * (r .size + 8) ≤ length s
   within = omega (arith, g .inside, length-drop i s, run-within r left here (drop i s) (g .run) h)
 
-  part : take (i + r .intervals * (r .size + 8) - i) (drop i s) ≡ take (r .intervals * (r .size + 8)) (drop i s)
-  part = let same : i + r .intervals * (r .size + 8) - i ≡ r .intervals * (r .size + 8) = omega arith in rw same refl
-
   first : Run r 1 here (take (i + r .intervals * (r .size + 8) - i) (drop i s))
-  first = rw part (run-one r left here (drop i s) (g .run) h)
+  first = rw part-at (run-one r left here (drop i s) (g .run) h)
 
   room : (r .intervals ≤ 8) × (here .interval + r .intervals ≤ 2 ^ 32) × (here .address < 2 ^ 63)
   room =
@@ -50,7 +47,7 @@ module _ {r : Rules} {count : ℕ} {p : Place} {s : List ℕ} {left : ℕ} {here
 
   module _ {a : Answer} {b : Bool} (m : a ≡ judgeBlock r here (take (i + r .intervals * (r .size + 8) - i) (drop i s))) (t : b ≡ isGood a) where
     judged : a ≡ judgeBlock r here (drop i s)
-    judged = m ∙ ap (judgeBlock r here) part ∙ own-block r here (drop i s)
+    judged = m ∙ ap (judgeBlock r here) (part-at i _ s) ∙ own-block r here (drop i s)
 
     stop : not b ≡ true → a ≡ judgeBlocks r count p s
     stop w = first-stop (judgeBlock r) (nextBlock (r .intervals)) _ left i here s a _ h judged (sym t ∙ not-true b w) (g .same)

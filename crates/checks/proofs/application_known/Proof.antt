@@ -1,0 +1,16 @@
+-- `checks::application_known`: both are asked.
+-- Assumes nothing.
+use Rattle.checks.specs.Checks.{applicationKnown}
+use borrow.Author.Needs.{needs}
+use Rattle.checks.proofs.application_known.Statement.{statement}
+use Rattle.checks.proofs.application_known.Tie as tie
+
+both-requires : tie.Need-both-requires
+both-requires c κs = search needs
+
+returns : tie.Need-returns
+unfolding applicationKnown
+returns c = c .both .ensures
+
+pub application-known-spec : {M : Type 1} → statement M
+application-known-spec = tie.close (tie.spec both-requires returns)

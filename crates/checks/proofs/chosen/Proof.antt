@@ -1,0 +1,75 @@
+-- `checks::chosen`: each code is one row of the table.
+-- Assumes nothing.
+use mathlib.Core.Path.{_≡_, refl, sym, ap, _∙_}
+use Rattle.checks.specs.Checks.{columnsOf}
+use Rattle.checks.proofs.Laws.{no-code}
+use borrow.Author.Needs.{needs}
+use Rattle.checks.proofs.chosen.Statement.{statement}
+use Rattle.checks.proofs.chosen.Tie as tie
+
+of-columns-requires : tie.Need-of-columns-requires
+of-columns-requires c κs = search needs
+
+of-columns-requires-2 : tie.Need-of-columns-requires-2
+of-columns-requires-2 c κs = search needs
+
+of-columns-requires-3 : tie.Need-of-columns-requires-3
+of-columns-requires-3 c κs = search needs
+
+of-columns-requires-4 : tie.Need-of-columns-requires-4
+of-columns-requires-4 c κs = search needs
+
+of-columns-requires-5 : tie.Need-of-columns-requires-5
+of-columns-requires-5 c κs = search needs
+
+of-columns-requires-6 : tie.Need-of-columns-requires-6
+of-columns-requires-6 c κs = search needs
+
+of-columns-requires-7 : tie.Need-of-columns-requires-7
+of-columns-requires-7 c κs = search needs
+
+returns : tie.Need-returns
+unfolding columnsOf
+returns c = c .of-columns .ensures ∙ rw (c .before .match .keys1)
+
+returns-2 : tie.Need-returns-2
+unfolding columnsOf
+returns-2 c = c .of-columns2 .ensures ∙ rw (c .before .match .keys2)
+
+returns-3 : tie.Need-returns-3
+unfolding columnsOf
+returns-3 c = c .of-columns3 .ensures ∙ rw (c .before .match .keys3)
+
+returns-4 : tie.Need-returns-4
+unfolding columnsOf
+returns-4 c = c .of-columns4 .ensures ∙ rw (c .before .match .keys4)
+
+returns-5 : tie.Need-returns-5
+unfolding columnsOf
+returns-5 c = c .of-columns5 .ensures ∙ rw (c .before .match .keys5)
+
+returns-6 : tie.Need-returns-6
+unfolding columnsOf
+returns-6 c = c .of-columns6 .ensures ∙ rw (c .before .match .keys6)
+
+returns-7 : tie.Need-returns-7
+returns-7 c = let r = c .before .match .rest in c .of-columns7 .ensures ∙ sym (no-code _ (r .0 .0 .0 .0 .0 .1) (r .0 .0 .0 .0 .1) (r .0 .0 .0 .1) (r .0 .0 .1) (r .0 .1) (r .1))
+
+pub chosen-spec : {M : Type 1} → statement M
+chosen-spec =
+    tie.close
+    (tie.spec
+    of-columns-requires
+    of-columns-requires-2
+    of-columns-requires-3
+    of-columns-requires-4
+    of-columns-requires-5
+    of-columns-requires-6
+    of-columns-requires-7
+    returns
+    returns-2
+    returns-3
+    returns-4
+    returns-5
+    returns-6
+    returns-7)

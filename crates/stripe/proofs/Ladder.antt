@@ -1,0 +1,59 @@
+-- The ladder of refusals: 1 where the description is none, then 11 where a test of the shape fails.
+-- Assumes nothing.
+use mathlib.Core.Path.{_≡_, sym, ap, _∙_}
+use mathlib.Core.Bool.{Bool, true, false, not, _&&_}
+use mathlib.Core.List.{List}
+use Prim.Native.Nat.{ℕ, _*_, _≤_}
+use native.Mathlib.Nat.{mul-le-mul}
+use borrow.Author.Tests.{not-false}
+use lib.Dec.{T, T-not, not-T, eqb, leb, leb→le, le→leb, eqb→eq, eqb-refl}
+use Rattle.words.proofs.Choice.{and-true, and-left, and-right, chosen, not-chosen}
+use Rattle.answer.specs.declared.Answer.the-variants as answers
+use Rattle.segment.specs.declared.Description.{Description}
+use Rattle.segment.specs.Segment.{Segment, isSegment, lengthOf}
+use Rattle.segment.proofs.Laws.{segment-facts, length-most}
+use Rattle.stripe.specs.Stripe.{striped, stripedOf, members}
+
+-- ---- what the test of the description says
+fits : (d : Description) (f : Bool) → not f ≡ false → f ≡ isSegment d → T (isSegment d)
+fits d f n e = rw (← e, not-false f n) tt
+
+pub is-one : (d : Description) (f : Bool) → not f ≡ false → f ≡ isSegment d → Segment d
+is-one d f n e = segment-facts d (fits d f n e)
+
+-- up to seventeen parts have a length that a number of 64 bits holds
+pub all-most : (d : Description) (k long : ℕ) → Segment d → long ≡ lengthOf d → k ≤ 17 → k * long ≤ 17 * (65536 * 4160)
+all-most d k long s e h = rw e (mul-le-mul h (length-most d s))
+
+pub members-facts : (k : ℕ) → T (members k) → (1 ≤ k) × (k ≤ 16)
+unfolding members
+members-facts k t = (leb→le 1 k (and-left (leb 1 k) _ t), leb→le k 16 (and-right (leb 1 k) _ t))
+
+pub members-true : (k : ℕ) → 1 ≤ k → k ≤ 16 → T (members k)
+unfolding members
+members-true k l h = and-true (leb 1 k) (leb k 16) (le→leb 1 k l) (le→leb k 16 h)
+
+pub same : (a b : ℕ) → a ≡ b → T (eqb a b)
+same a b e = rw e (eqb-refl b)
+
+-- ---- the answers
+module _ (d : Description) (shaped : Bool) (old new : List ℕ) (f : Bool) (e : f ≡ isSegment d) where
+  pub not-one : not f ≡ true → striped answers.Description old ≡ stripedOf d shaped old new
+  unfolding stripedOf
+  not-one n = sym (chosen (not (isSegment d)) (striped answers.Description old) _ (rw (← e, n) tt))
+
+  pub no-shape : not f ≡ false → ((d .kind ≡ 0 → ⊥) → T shaped → ⊥) → striped answers.Stripe old ≡ stripedOf d shaped old new
+  unfolding stripedOf
+  no-shape n h =
+      sym
+      (not-chosen (not (isSegment d)) (striped answers.Description old) _ (λ t. T-not (isSegment d) t (fits d f n e))
+      ∙ not-chosen (not (eqb (d .kind) 0) && shaped) (striped answers.Good new) _
+      (λ t. h (λ z. T-not (eqb (d .kind) 0) (and-left (not (eqb (d .kind) 0)) shaped t) (same (d .kind) 0 z)) (and-right (not (eqb (d .kind) 0)) shaped t)))
+
+  pub shape : (l : List ℕ) → not f ≡ false → (d .kind ≡ 0 → ⊥) → T shaped → l ≡ new → striped answers.Good l ≡ stripedOf d shaped old new
+  unfolding stripedOf
+  shape l n k t m =
+      ap (striped answers.Good) m
+      ∙ sym
+      (not-chosen (not (isSegment d)) (striped answers.Description old) _ (λ t. T-not (isSegment d) t (fits d f n e))
+      ∙ chosen (not (eqb (d .kind) 0) && shaped) (striped answers.Good new) _ (and-true (not (eqb (d .kind) 0)) shaped (not-T (eqb (d .kind) 0) (λ z. k (eqb→eq (d .kind) 0 z))) t))
