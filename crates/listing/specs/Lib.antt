@@ -1,4 +1,3 @@
 pub mod Lines
 pub mod Record
-
--- pub mod Listing
+pub mod Listing

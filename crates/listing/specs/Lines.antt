@@ -118,10 +118,12 @@ unfoldable pub skippedText : List ℕ
 skippedText = 0x20 ∷ 0x73 ∷ 0x6B ∷ 0x69 ∷ 0x70 ∷ 0x70 ∷ 0x65 ∷ 0x64 ∷ 0x20 ∷ []
 
 -- "the last gives the number of interval lines, of those in state `guard` or `ref`, and of those `skipped`"
+unfoldable pub numbersText : ℕ → ℕ → ℕ → List ℕ
+numbersText all faults skipped =
+    intervalsText ++ (decimal all ++ (faultsText ++ (decimal faults ++ (skippedText ++ (decimal skipped ++ (0x0A ∷ []))))))
+
 unfoldable pub totalText : List Line → List ℕ
-totalText ls =
-    intervalsText ++ (decimal (length ls) ++ (faultsText ++ (decimal (countOf faulty ls)
-    ++ (skippedText ++ (decimal (countOf skips ls) ++ (0x0A ∷ []))))))
+totalText ls = numbersText (length ls) (countOf faulty ls) (countOf skips ls)
 
 -- ---- what the functions that print lines hand back, and what they ask
 

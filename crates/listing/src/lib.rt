@@ -5,11 +5,14 @@ ghost use Prim.Native.Nat.{_+_, _*_, _≤_, _^_};
 ghost use lib.ListN.{length};
 ghost use Rattle.guard.specs.Table.{Right};
 ghost use Rattle.judge.specs.Judge.{Run, judgeInterval};
-ghost use Rattle.segment.specs.Segment.{Segment};
+ghost use Rattle.segment.specs.Segment.{Segment, lengthOf};
 ghost use Rattle.text.specs.Laid.{Written};
-ghost use Rattle.listing.specs.Lines.{worded, stateOf, lineOf, linesIn, blockLines, faulty, skips, stateText, lineText, headerText, totalText, Printed, Room};
+ghost use Rattle.listing.specs.Lines.{worded, stateOf, lineOf, linesIn, blockLines, faulty, skips, stateText, lineText, numbersText, Printed, Room};
 ghost use Rattle.listing.specs.Record.{frameBad, Framed, describedBy, recordAnswer};
+ghost use Rattle.listing.specs.Listing.{readAll, linesOf, listedText, refusedText, Listed};
 use answer::Answer;
+use command::Command;
+use command::Operation;
 use judge::Place;
 use judge::Rules;
 use segment::Description;
@@ -224,4 +227,148 @@ fn print_blocks(
         left -= 1;
     }
     now
+}
+
+// Whether the record's frame is none.
+fn frame_bad(input: &[u8]) -> bool
+    ensures { λ r. ⌜ r ≡ frameBad (now (input .entry)) ⌝ }
+{
+    if input.len() < 4 {
+        return true;
+    }
+    let length = words::read4(input, 0) as usize;
+    if 65532 < length {
+        return true;
+    }
+    if length < 15 {
+        return true;
+    }
+    if input.len() != 4 + length {
+        return true;
+    }
+    if input[4] != 1 {
+        return true;
+    }
+    false
+}
+
+// The description that a record gives.
+fn described(input: &[u8]) -> Description
+    requires { ⌜ Framed (now input) ⌝ }
+    ensures { λ d. ⌜ d ≡ describedBy (now (input .entry)) ⌝ }
+{
+    Description {
+        kind: input[5] as u64,
+        block: words::read2(input, 7) as u64,
+        exponent: input[6] as u64,
+        first: words::read8(input, 9),
+        count: words::read2(input, 17) as u64,
+        ato: 0,
+    }
+}
+
+// The refusal of a record, or Good.
+fn record_answer(input: &[u8]) -> Answer
+    ensures { λ a. ⌜ a ≡ recordAnswer (now (input .entry)) ⌝ }
+{
+    if frame_bad(input) {
+        return Answer::Listing;
+    }
+    let d = described(input);
+    if !segment::fit(d) {
+        return Answer::Description;
+    }
+    if input.len() - 19 != segment::length(d) {
+        return Answer::Segment;
+    }
+    Answer::Good
+}
+
+// The last line: how many lines there are, how many with a fault, how many skipped.
+fn print_total(out: &mut [u8], t: Sheet) -> usize
+    requires { ⌜ t .at + 88 ≤ 2 ^ 32 ⌝ }
+    ensures { λ r. ⌜ Written (numbersText (t .lines) (t .faults) (t .skipped)) (t .at) (now (out .entry)) r (now (out .exit)) ⌝ }
+{
+    let a = text::put_word(out, t.at, b"intervals ");
+    let b = text::decimal(out, a, t.lines);
+    let c = text::put_word(out, b, b" faults ");
+    let d = text::decimal(out, c, t.faults);
+    let e = text::put_word(out, d, b" skipped ");
+    text::decimal_then(out, e, t.skipped, 0x0A)
+}
+
+// The one line of a refusal.
+fn print_refused(out: &mut [u8], a: Answer) -> usize
+    ensures { λ r. ⌜ Written (refusedText a) 0 (now (out .entry)) r (now (out .exit)) ⌝ }
+{
+    let at = text::put_word(out, 0, b"refused ");
+    text::decimal_then(out, at, answer::number(a), 0x0A)
+}
+
+// The command whose judging gives the states: a READ (16) of the whole segment with code 001.
+fn read_all(d: Description) -> Command
+    requires { ⌜ Segment d ⌝ }
+    ensures { λ c. ⌜ c ≡ readAll d ⌝ }
+{
+    Command {
+        operation: Operation::Read,
+        long: false,
+        code: 0b001,
+        check: 0,
+        address: d.first,
+        length: d.count,
+        tag: 0,
+        application: 0,
+        mask: 0,
+    }
+}
+
+// The lines of a segment, printed; type 0 has none.
+fn print_segment(d: Description, s: &[u8], out: &mut [u8], sheet: Sheet) -> Sheet
+    requires { ⌜ Segment d ⌝ }
+    requires { ⌜ lengthOf d ≡ length (now s) ⌝ }
+    requires { ⌜ Room sheet (length (now s)) ⌝ }
+    ensures { λ x. ⌜ Printed (linesOf d (now (s .entry))) sheet (now (out .entry)) x (now (out .exit)) ⌝ }
+{
+    if d.kind == 0 {
+        return sheet;
+    }
+    let c = read_all(d);
+    let t = guard::table();
+    let r = checks::rules(d, c);
+    let p = checks::start(d, c);
+    print_blocks(&t, r, p, d.count as usize, s, out, sheet)
+}
+
+// The listing of a segment: header, lines, last line.
+fn print_listed(d: Description, s: &[u8], out: &mut [u8]) -> usize
+    requires { ⌜ Segment d ⌝ }
+    requires { ⌜ lengthOf d ≡ length (now s) ⌝ }
+    requires { ⌜ length (now s) ≤ 65536 ⌝ }
+    ensures { λ r. ⌜ Written (listedText d (now (s .entry))) 0 (now (out .entry)) r (now (out .exit)) ⌝ }
+{
+    let at = text::put_word(out, 0, b"lba interval guard app ref state\n");
+    let sheet = print_segment(
+        d,
+        s,
+        out,
+        Sheet {
+            at: at,
+            lines: 0,
+            faults: 0,
+            skipped: 0,
+        },
+    );
+    print_total(out, sheet)
+}
+
+// Writes the listing of a record to `out`: of its bytes, as many as there is room for. Hands back how many bytes the whole listing has.
+pub fn list(input: &[u8], out: &mut [u8]) -> usize
+    ensures { λ r. ⌜ Listed (now (input .entry)) (now (out .entry)) r (now (out .exit)) ⌝ }
+{
+    let a = record_answer(input);
+    if !answer::good(a) {
+        return print_refused(out, a);
+    }
+    print_listed(described(input), &input[19..], out)
 }
