@@ -1,8 +1,9 @@
 -- "length L (4 bytes, big-endian, at most 65,532), then L bytes: version 1, P, e (one byte each), B (2), W (8), N (2), the
 -- segment."
-use Prim.Native.Nat.{ℕ, _+_}
+use Prim.Native.Nat.{ℕ, _+_, _≤_}
 use mathlib.Core.Bool.{Bool, not, _||_, cond}
 use mathlib.Core.List.{List}
+use mathlib.Core.Path.{_≡_}
 use lib.Dec.{eqb, ltb}
 use lib.ListN.{length, getD, drop}
 use Rattle.words.specs.BigEndian.{numberAt}
@@ -39,3 +40,11 @@ recordAnswer input =
     cond (frameBad input) answers.Listing
     (cond (not (isSegment (describedBy input))) answers.Description
     (cond (not (eqb (length (segmentIn input)) (lengthOf (describedBy input)))) answers.Segment answers.Good))
+
+-- the frame as facts
+pub record Framed (input : List ℕ) : Type 0 where
+  pub start : 4 ≤ length input
+  pub most : numberAt 0 4 input ≤ 65532
+  pub least : 15 ≤ numberAt 0 4 input
+  pub whole : length input ≡ 4 + numberAt 0 4 input
+  pub version : getD input 4 0 ≡ 1
