@@ -43,7 +43,7 @@ own-data : (size : ℕ) (s : List ℕ) → dataOf size (take (size + 8) s) ≡ d
 unfolding dataOf
 own-data size s = take-take size (size + 8) s (omega arith)
 
-own-field : (size : ℕ) (s : List ℕ) → fieldOf size (take (size + 8) s) ≡ fieldOf size s
+pub own-field : (size : ℕ) (s : List ℕ) → fieldOf size (take (size + 8) s) ≡ fieldOf size s
 unfolding fieldOf
 own-field size s = rw drop-take (take-take 8 8 (drop size s) (omega arith))
 

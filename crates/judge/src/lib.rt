@@ -51,7 +51,7 @@ pub fn escaped(e: Escape, field: &[u8]) -> bool
 }
 
 // Whether any of the first `count` intervals has the escape.
-fn any_escaped(e: Escape, size: usize, count: usize, s: &[u8]) -> bool
+pub fn any_escaped(e: Escape, size: usize, count: usize, s: &[u8]) -> bool
     requires { ⌜ count * (size + 8) ≡ length (now s) ⌝ }
     ensures { λ r. ⌜ r ≡ anyEscapes e size count (now (s .entry)) ⌝ }
 {
@@ -122,7 +122,7 @@ pub fn judge_pieces(t: &[u16; 256], r: Rules, p: Place, data: &[u8], field: &[u8
 }
 
 // The place of the next interval of the block, and of the next block.
-fn next_interval(p: Place) -> Place
+pub fn next_interval(p: Place) -> Place
     requires { ⌜ p .interval < 2 ^ 32 ⌝ }
     ensures { λ q. ⌜ q ≡ nextInterval p ⌝ }
 {
@@ -133,7 +133,7 @@ fn next_interval(p: Place) -> Place
     }
 }
 
-fn next_block(n: usize, p: Place) -> Place
+pub fn next_block(n: usize, p: Place) -> Place
     requires { ⌜ (n ≤ 8) × (p .interval + n ≤ 2 ^ 32) × (p .address < 2 ^ 63) ⌝ }
     ensures { λ q. ⌜ q ≡ nextBlock n p ⌝ }
 {

@@ -1,0 +1,5 @@
+pub mod LineLaws
+pub mod SheetLaws
+pub mod BlockLaws
+pub mod RecordLaws
+pub mod ListingLaws

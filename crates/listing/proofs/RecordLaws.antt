@@ -1,0 +1,116 @@
+-- The laws of a record: its frame as a test and as facts, and which refusal comes first.
+-- Assumes nothing.
+use mathlib.Core.Path.{_≡_, refl, sym, ap, _∙_}
+use mathlib.Core.Bool.{Bool, true, false, not, _||_, cond, true≢false}
+use mathlib.Core.List.{List}
+use Prim.Native.Nat.{ℕ, _+_, _-_, _<_, _≤_}
+use native.Mathlib.Omega.{arith}
+use borrow.Author.Tests.{le-ltb, eq-eqb, ne-eqb, ltb-false, eqb-true, not-false}
+use lib.Dec.{T, eqb, ltb}
+use lib.ListN.{length, getD, drop, length-drop}
+use Rattle.words.specs.BigEndian.{numberAt}
+use Rattle.answer.specs.Answer.{isGood}
+use Rattle.answer.specs.declared.Answer.{Answer}
+use Rattle.answer.specs.declared.Answer.the-variants as answers
+use Rattle.segment.specs.declared.Description.{Description}
+use Rattle.segment.specs.Segment.{isSegment, Segment, lengthOf}
+use Rattle.segment.proofs.Laws.{segment-facts, is-segment}
+use Rattle.listing.specs.Record.{frameBad, Framed, describedBy, segmentIn, recordAnswer}
+
+-- ---- the frame
+or-parts : (a b : Bool) → a || b ≡ false → (a ≡ false) × (b ≡ false)
+or-parts true b e = (e, absurd (true≢false e))
+or-parts false b e = (refl, e)
+
+pub frame-facts : (input : List ℕ) → frameBad input ≡ false → Framed input
+unfolding frameBad
+frame-facts input e =
+    let start = or-parts (ltb (length input) 4) _ e in
+    let most = or-parts (ltb 65532 (numberAt 0 4 input)) _ (start .1) in
+    let least = or-parts (ltb (numberAt 0 4 input) 15) _ (most .1) in
+    let whole = or-parts (not (eqb (length input) (4 + numberAt 0 4 input))) _ (least .1) in
+    record {
+      start = ltb-false _ _ (start .0);
+      most = ltb-false _ _ (most .0);
+      least = ltb-false _ _ (least .0);
+      whole = eqb-true _ _ (not-false _ (whole .0));
+      version = eqb-true _ _ (not-false _ (whole .1));
+    }
+
+pub frame-good : (input : List ℕ) → Framed input → frameBad input ≡ false
+unfolding frameBad
+frame-good input f =
+    rw (
+      le-ltb (length input) 4 (f .start),
+      le-ltb 65532 (numberAt 0 4 input) (f .most),
+      le-ltb (numberAt 0 4 input) 15 (f .least),
+      eq-eqb (length input) (4 + numberAt 0 4 input) (f .whole),
+      eq-eqb (getD input 4 0) 1 (f .version),
+    )
+    refl
+
+pub frame-bad : (input : List ℕ) → (Framed input → ⊥) → true ≡ frameBad input
+frame-bad input n = by (frameBad input) refl
+  where
+    by : (b : Bool) → frameBad input ≡ b → true ≡ b
+    by true e = refl
+    by false e = absurd (n (frame-facts input e))
+
+pub segment-length : (input : List ℕ) → length (segmentIn input) ≡ length input - 19
+unfolding segmentIn
+segment-length input = length-drop 19 input
+
+-- ---- the refusals, in order
+module _ (input : List ℕ) {b : Bool} (e : b ≡ frameBad input) where
+  pub record-frame : b ≡ true → answers.Listing ≡ recordAnswer input
+  unfolding recordAnswer
+  record-frame w = rw (sym e ∙ w)
+
+  pub record-framed : b ≡ false → Framed input
+  record-framed w = frame-facts input (sym e ∙ w)
+
+  module _ {d : Description} (m : d ≡ describedBy input) where
+    pub record-description : b ≡ false → isSegment d ≡ false → answers.Description ≡ recordAnswer input
+    unfolding recordAnswer
+    record-description w x = rw (sym e ∙ w, ap isSegment (sym m) ∙ x)
+
+    pub record-segment : b ≡ false → Segment d → (length (segmentIn input) ≡ lengthOf d → ⊥) → answers.Segment ≡ recordAnswer input
+    unfolding recordAnswer
+    record-segment w f n =
+        let other : eqb (length (segmentIn input)) (lengthOf (describedBy input)) ≡ false = rw (← m) (ne-eqb (length (segmentIn input)) (lengthOf d) n) in
+        rw (sym e ∙ w, ap isSegment (sym m) ∙ is-segment d f, other)
+
+    pub record-good : b ≡ false → Segment d → length (segmentIn input) ≡ lengthOf d → answers.Good ≡ recordAnswer input
+    unfolding recordAnswer
+    record-good w f n =
+        let same : eqb (length (segmentIn input)) (lengthOf (describedBy input)) ≡ true = rw (← m) (eq-eqb (length (segmentIn input)) (lengthOf d) n) in
+        rw (sym e ∙ w, ap isSegment (sym m) ∙ is-segment d f, same)
+
+-- ---- what a record that is not refused is
+pub record Whole (input : List ℕ) : Type 0 where
+  pub frame : Framed input
+  pub segment : Segment (describedBy input)
+  pub length : length (segmentIn input) ≡ lengthOf (describedBy input)
+
+passed : (f s l : Bool) → isGood (cond f answers.Listing (cond (not s) answers.Description (cond (not l) answers.Segment answers.Good))) ≡ true
+    → (f ≡ false) × ((s ≡ true) × (l ≡ true))
+passed true s l e = absurd (true≢false (sym e))
+passed false false l e = absurd (true≢false (sym e))
+passed false true false e = absurd (true≢false (sym e))
+passed false true true e = (refl, (refl, refl))
+
+pub record-whole : (input : List ℕ) → isGood (recordAnswer input) ≡ true → Whole input
+unfolding recordAnswer
+record-whole input e =
+    let p = passed (frameBad input) (isSegment (describedBy input)) (eqb (length (segmentIn input)) (lengthOf (describedBy input))) e in
+    record {
+      frame = frame-facts input (p .0);
+      segment = segment-facts (describedBy input) (rw (p .1 .0) tt);
+      length = eqb-true _ _ (p .1 .1);
+    }
+
+-- ---- the description, field by field
+pub described-made : (input : List ℕ) {b w n : ℕ} → b ≡ numberAt 7 2 input → w ≡ numberAt 9 8 input → n ≡ numberAt 17 2 input
+    → _≡_ {A = Description} (record { kind = getD input 5 0; block = b; exponent = getD input 6 0; first = w; count = n; ato = 0 }) (describedBy input)
+unfolding describedBy
+described-made input eb ew en = rw (eb, ew, en)

@@ -1,0 +1,56 @@
+-- "The listing program": what is printed of a record.
+use Prim.Native.Nat.{ℕ}
+use mathlib.Core.Bool.{false, cond}
+use mathlib.Core.List.{List, [], _∷_, _++_}
+use mathlib.Core.Path.{_≡_}
+use lib.Dec.{eqb}
+use lib.ListN.{length}
+use Rattle.answer.specs.Answer.{numberOf, isGood}
+use Rattle.answer.specs.declared.Answer.{Answer}
+use Rattle.segment.specs.declared.Description.{Description}
+use Rattle.command.specs.declared.Command.{Command}
+use Rattle.command.specs.declared.Operation.the-variants.{Read}
+use Rattle.checks.specs.Checks.{rulesOf, startOf}
+use Rattle.text.specs.Text.{decimal}
+use Rattle.text.specs.Laid.{laid}
+use Rattle.listing.specs.declared.Line.{Line}
+use Rattle.listing.specs.Lines.{blockLines, linesText, headerText, totalText}
+use Rattle.listing.specs.Record.{recordAnswer, describedBy, segmentIn}
+
+-- The states are those of a READ (16) of the whole segment with code 001: the guard is checked, and in type 1 the reference.
+unfoldable pub readAll : Description → Command
+readAll d =
+    record {
+      operation = Read;
+      long = false;
+      code = 0b001;
+      check = 0;
+      address = d .first;
+      length = d .count;
+      tag = 0;
+      application = 0;
+      mask = 0;
+    }
+
+-- "Type 0 has no interval lines."
+unfoldable pub linesOf : Description → List ℕ → List Line
+linesOf d s = cond (eqb (d .kind) 0) [] (blockLines (rulesOf d (readAll d)) (d .count) (startOf d (readAll d)) s)
+
+-- "Unless refused, header and last line stand"
+unfoldable pub listedText : Description → List ℕ → List ℕ
+listedText d s = headerText ++ (linesText (linesOf d s) ++ totalText (linesOf d s))
+
+-- "a refusal prints one line only, `refused`, a space and the number"
+unfoldable pub refusedText : Answer → List ℕ
+refusedText a = 0x72 ∷ 0x65 ∷ 0x66 ∷ 0x75 ∷ 0x73 ∷ 0x65 ∷ 0x64 ∷ 0x20 ∷ decimal (numberOf a) ++ (0x0A ∷ [])
+
+-- exactly the bytes to be printed of a record
+unfoldable pub listing : List ℕ → List ℕ
+listing input =
+    cond (isGood (recordAnswer input)) (listedText (describedBy input) (segmentIn input)) (refusedText (recordAnswer input))
+
+-- what is answered, and what the lent buffer then holds: the number of bytes of the whole listing, and of these as many as the
+-- buffer has room for; what lies behind them stays
+pub record Listed (input out : List ℕ) (r : ℕ) (left : List ℕ) : Type 0 where
+  pub count : r ≡ length (listing input)
+  pub text : left ≡ laid 0 (listing input) out
