@@ -20,6 +20,7 @@ use Rattle.judge.proofs.FirstLaws.{orElse-good}
 use Rattle.checks.specs.Checks.{columnsOf, applicationKnown, rulesOf, startOf}
 use Rattle.text.specs.Text.{decimal}
 use Rattle.text.specs.Laid.{laid}
+use Rattle.text.proofs.Writing.{laid-length}
 use Rattle.text.proofs.Digits.{decimal-most}
 use Rattle.listing.specs.declared.Line.{Line}
 use Rattle.listing.specs.declared.State.{State}
@@ -145,3 +146,7 @@ listing-most input = by (isGood (recordAnswer input)) refl
         let w = record-whole input e in
         listed-most _ _ (w .segment) (sym (w .length)) (omega (arith, length-drop 19 input, w .frame .whole, w .frame .most))
     by false e = omega (arith, refused-most (recordAnswer input))
+
+-- so a buffer of that length takes any listing in full
+pub listed-fits : {input out left : List ℕ} {r : ℕ} → Listed input out r left → 524288 ≡ length out → r ≤ length left
+listed-fits {input} {out} p h = omega (arith, p .count, listing-most input, ap length (p .text), laid-length 0 (listing input) out)
