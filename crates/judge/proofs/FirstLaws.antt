@@ -101,7 +101,7 @@ good-or answers.Size = inr refl
 pub not-both : (a : Answer) → a ≡ answers.Good → isGood a ≡ false → ⊥
 not-both a g w = true≢false (sym (ap isGood g) ∙ w)
 
-orElse-good : (a b : Answer) → (orElse a b ≡ answers.Good) ↔ ((a ≡ answers.Good) × (b ≡ answers.Good))
+pub orElse-good : (a b : Answer) → (orElse a b ≡ answers.Good) ↔ ((a ≡ answers.Good) × (b ≡ answers.Good))
 orElse-good a b =
     ⊎-elim
     (λ g. rw g (λ e. (refl, e), λ two. two .1))

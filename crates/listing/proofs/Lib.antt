@@ -3,3 +3,4 @@ pub mod SheetLaws
 pub mod BlockLaws
 pub mod RecordLaws
 pub mod ListingLaws
+pub mod Demands

@@ -4,7 +4,7 @@ use mathlib.Core.Path.{_≡_, refl, sym, ap, ap₂, _∙_}
 use mathlib.Core.Bool.{Bool, true, false, not, cond}
 use mathlib.Core.List.{List, [], _∷_, _++_, append-assoc}
 use Prim.Native.Nat.{ℕ, _+_, _-_, _*_, _^_, _<_, _≤_, zero-le}
-use native.Mathlib.Nat.{zero-add, mul-one, mul-assoc, mul-le-mul, le-refl}
+use native.Mathlib.Nat.{zero-add, mul-assoc, mul-le-mul, le-refl}
 use native.Mathlib.Omega.{arith}
 use borrow.Author.Tests.{eq-eqb, ne-eqb, eqb-true, eqb-false, not-true, not-false}
 use lib.Dec.{eqb}
@@ -60,21 +60,23 @@ module _ (d : Description) (s : List ℕ) (g : Segment d) (long : lengthOf d ≡
         size = sizes d g .size-most;
       }
 
-  -- no more lines than bytes
-  pub lines-few : (d .kind ≡ 0 → ⊥) → d .count * rulesOf d (readAll d) .intervals ≤ length s
+  -- a line for nine bytes at the least
+  pub lines-few : (d .kind ≡ 0 → ⊥) → d .count * rulesOf d (readAll d) .intervals * 9 ≤ length s
   unfolding rulesOf lengthOf
   lines-few n =
-      let one : intervalsOf d ≤ storedOf d = rw (stored-intervals d g n) (rw mul-one at (mul-le-mul {n₁ = intervalsOf d} {m₁ = 1} {n₂ = intervalsOf d} {m₂ = sizeOf d + 8} (le-refl _) (omega arith))) in
-      rw (← long) (mul-le-mul {n₁ = d .count} {n₂ = d .count} (le-refl _) one)
+      let nine : intervalsOf d * 9 ≤ storedOf d =
+      rw (stored-intervals d g n)
+      (mul-le-mul {n₁ = intervalsOf d} {m₁ = 9} {n₂ = intervalsOf d} {m₂ = sizeOf d + 8} (le-refl _) (omega (arith, sizes d g .size-least))) in
+      rw (← long, mul-assoc) (mul-le-mul {n₁ = d .count} {m₁ = intervalsOf d * 9} {n₂ = d .count} {m₂ = storedOf d} (le-refl _) nine)
 
-  lines-none : d .kind ≡ 0 → linesOf d s ≡ []
+  pub lines-none : d .kind ≡ 0 → linesOf d s ≡ []
   unfolding linesOf
   lines-none e = rw (eq-eqb (d .kind) 0 e)
 
   pub lines-plain : {t : Sheet} {out : List ℕ} → d .kind ≡ 0 → Printed (linesOf d s) t out t out
   lines-plain {t} {out} e = rw (lines-none e) (printed-none t out)
 
-  lines-are : (d .kind ≡ 0 → ⊥) → linesOf d s ≡ blockLines (rulesOf d (readAll d)) (d .count) (startOf d (readAll d)) s
+  pub lines-are : (d .kind ≡ 0 → ⊥) → linesOf d s ≡ blockLines (rulesOf d (readAll d)) (d .count) (startOf d (readAll d)) s
   unfolding linesOf
   lines-are n = rw (ne-eqb (d .kind) 0 n)
 
@@ -89,15 +91,15 @@ module _ (d : Description) (s : List ℕ) (g : Segment d) (long : lengthOf d ≡
     blocks-run = rw (rules-are, start-is) (segment-run n)
 
     pub blocks-room : {t : Sheet} → Room t (length s) → Room t (d .count * r .intervals)
-    blocks-room room = rw rules-are (room-less _ _ (lines-few n) room)
+    blocks-room room = rw rules-are (room-less _ _ (omega (arith, lines-few n)) room)
 
     pub blocks-printed : {t u : Sheet} {out left : List ℕ} → Printed (blockLines r (d .count) p s) t out u left → Printed (linesOf d s) t out u left
     blocks-printed w = printed-as (ap₂ (λ (x : Rules) (y : Place). blockLines x (d .count) y s) rules-are start-is ∙ sym (lines-are n)) w
 
-  pub lines-length : length (linesOf d s) ≤ length s
+  pub lines-length : length (linesOf d s) * 9 ≤ length s
   lines-length = by (eqb (d .kind) 0) refl
     where
-      by : (b : Bool) → eqb (d .kind) 0 ≡ b → length (linesOf d s) ≤ length s
+      by : (b : Bool) → eqb (d .kind) 0 ≡ b → length (linesOf d s) * 9 ≤ length s
       by true e = rw (lines-none (eqb-true _ _ e)) zero-le
       by false e =
           let n = eqb-false _ _ e in

@@ -39,7 +39,7 @@ count-append f [] b = omega arith
 count-append f (l ∷ a) b = omega (arith, count-append f a b)
 
 -- ---- how much there can be
-lines-most : (ls : List Line) → length (linesText ls) ≤ length ls * 69
+pub lines-most : (ls : List Line) → length (linesText ls) ≤ length ls * 69
 unfolding linesText
 lines-most [] = omega arith
 lines-most (l ∷ ls) = omega (arith, length-append (lineText l) (linesText ls), line-most l, lines-most ls)

@@ -1,0 +1,152 @@
+-- What is asked of a listing: its last line counts its own lines; there is one line for each interval; a line is faulty exactly
+-- where READ's judging finds a fault; and the contract leaves no choice. Assumes nothing.
+use mathlib.Core.Path.{_≡_, refl, sym, ap, _∙_}
+use mathlib.Core.Logic.{_↔_}
+use mathlib.Core.Bool.{Bool, true, false, _&&_, cond, true≢false}
+use mathlib.Core.List.{List, [], _∷_, _++_}
+use Prim.Native.Nat.{ℕ, zero, suc, _+_, _*_, _≤_}
+use native.Mathlib.Omega.{arith}
+use lib.ListN.{length, drop, length-append, length-drop}
+use Rattle.answer.specs.Answer.{numberOf, isGood, orElse}
+use Rattle.answer.specs.declared.Answer.{Answer}
+use Rattle.answer.specs.declared.Answer.the-variants as answers
+use Rattle.segment.specs.declared.Description.{Description}
+use Rattle.segment.specs.Segment.{Segment, intervalsOf, lengthOf}
+use Rattle.judge.specs.declared.Rules.{Rules}
+use Rattle.judge.specs.declared.Place.{Place}
+use Rattle.judge.specs.FirstOf.{firstOf}
+use Rattle.judge.specs.Judge.{dataOf, fieldOf, anyEscapes, guardWrong, applicationWrong, referenceWrong, judgePieces, judgeInterval, judgeIntervals, judgeBlock, judgeBlocks, nextInterval, nextBlock}
+use Rattle.judge.proofs.FirstLaws.{orElse-good}
+use Rattle.checks.specs.Checks.{columnsOf, applicationKnown, rulesOf, startOf}
+use Rattle.text.specs.Text.{decimal}
+use Rattle.text.specs.Laid.{laid}
+use Rattle.text.proofs.Writing.{laid-length}
+use Rattle.text.proofs.Digits.{decimal-most}
+use Rattle.listing.specs.declared.Line.{Line}
+use Rattle.listing.specs.declared.State.{State}
+use Rattle.listing.specs.Lines.{worded, stateOf, lineOf, intervalLines, linesIn, blockLines, faulty, skips, countOf, linesText, headerText, intervalsText, faultsText, skippedText, numbersText, totalText}
+use Rattle.listing.specs.Record.{recordAnswer, describedBy, segmentIn}
+use Rattle.listing.specs.Listing.{readAll, linesOf, listedText, refusedText, listing, Listed}
+use Rattle.listing.proofs.SheetLaws.{count-append, lines-most}
+use Rattle.listing.proofs.BlockLaws.{blocks-length}
+use Rattle.listing.proofs.RecordLaws.{Whole, record-whole}
+use Rattle.listing.proofs.ListingLaws.{lines-none, lines-are, lines-length}
+
+-- ---- the last line's numbers are those of the lines that stand above it
+pub totals-count : (d : Description) (s : List ℕ)
+    → listedText d s ≡ headerText ++ (linesText (linesOf d s) ++ numbersText (length (linesOf d s)) (countOf faulty (linesOf d s)) (countOf skips (linesOf d s)))
+unfolding listedText totalText
+totals-count d s = refl
+
+-- ---- a line for each interval, and none in type 0
+pub lines-all : (d : Description) (s : List ℕ) → Segment d → lengthOf d ≡ length s → (d .kind ≡ 0 → ⊥) → length (linesOf d s) ≡ d .count * intervalsOf d
+unfolding rulesOf
+lines-all d s g long n =
+    ap length (lines-are d s g long n) ∙ blocks-length (rulesOf d (readAll d)) (d .count) (startOf d (readAll d)) s
+
+pub lines-plain : (d : Description) (s : List ℕ) → Segment d → lengthOf d ≡ length s → d .kind ≡ 0 → length (linesOf d s) ≡ 0
+lines-plain d s g long e = ap length (lines-none d s g long e)
+
+-- ---- faulty lines are where judging finds a fault
+none-of-two : (a b : ℕ) → (a + b ≡ 0) ↔ ((a ≡ 0) × (b ≡ 0))
+none-of-two a b = (λ e. (omega arith, omega arith), λ two. omega (arith, two .0, two .1))
+
+both-ways : {A B C D P Q : Type 0} → (P ↔ (A × B)) → (Q ↔ (C × D)) → (A ↔ C) → (B ↔ D) → (P ↔ Q)
+both-ways p q x y =
+    (λ z. q .1 (x .0 (p .0 z .0), y .0 (p .0 z .1)), λ z. p .1 (x .1 (q .0 z .0), y .1 (q .0 z .1)))
+
+and-false : (a b : Bool) → a ≡ false → a && b ≡ false
+and-false true b e = absurd (true≢false e)
+and-false false b e = refl
+
+module _ (r : Rules) (plain : r .application ≡ false) where
+  fault : (a b : ℕ) (g x : Bool)
+      → (cond g (answers.Guard a b) (cond x (answers.Reference a b) answers.Good) ≡ answers.Good)
+      ↔ (faulty (worded (cond g (answers.Guard a b) (cond x (answers.Reference a b) answers.Good))) ≡ 0)
+  fault a b true x = (λ e. let z : _≡_ {A = ℕ} 0 1 = cc in absurd (omega arith), λ e. absurd (omega arith))
+  fault a b false true = (λ e. let z : _≡_ {A = ℕ} 0 1 = cc in absurd (omega arith), λ e. absurd (omega arith))
+  fault a b false false = (λ e. refl, λ e. refl)
+
+  not-applied : (f : List ℕ) → applicationWrong r f ≡ false
+  unfolding applicationWrong
+  not-applied f = and-false (r .application) _ plain
+
+  fault-interval : (p : Place) (s : List ℕ) → (judgeInterval r p s ≡ answers.Good) ↔ (faulty (worded (judgeInterval r p s)) ≡ 0)
+  unfolding judgeInterval judgePieces
+  fault-interval p s = rw (not-applied (fieldOf (r .size) s)) (fault (p .address) (p .interval) (guardWrong r (dataOf (r .size) s) (fieldOf (r .size) s)) (referenceWrong r p (fieldOf (r .size) s)))
+
+  faults-judged : (k number : ℕ) (p : Place) (s : List ℕ) → (firstOf (judgeInterval r) nextInterval (r .size + 8) k p s ≡ answers.Good) ↔ (countOf faulty (intervalLines r false k number p s) ≡ 0)
+  unfolding firstOf intervalLines countOf lineOf stateOf
+  faults-judged zero number p s = (λ e. refl, λ e. refl)
+  faults-judged (suc k) number p s =
+      both-ways (orElse-good (judgeInterval r p s) _) (none-of-two (faulty (worded (judgeInterval r p s))) _) (fault-interval p s)
+      (faults-judged k (number + 1) (nextInterval p) (drop (r .size + 8) s))
+
+  faults-skipped : (k number : ℕ) (p : Place) (s : List ℕ) → countOf faulty (intervalLines r true k number p s) ≡ 0
+  unfolding intervalLines countOf lineOf stateOf
+  faults-skipped zero number p s = refl
+  faults-skipped (suc k) number p s = omega (arith, faults-skipped k (number + 1) (nextInterval p) (drop (r .size + 8) s))
+
+  fault-block : (p : Place) (s : List ℕ) → (judgeBlock r p s ≡ answers.Good) ↔ (countOf faulty (linesIn r p s) ≡ 0)
+  unfolding judgeBlock judgeIntervals linesIn
+  fault-block p s =
+      elim (anyEscapes (r .escape) (r .size) (r .intervals) s)
+      as (λ b. (cond b answers.Good (firstOf (judgeInterval r) nextInterval (r .size + 8) (r .intervals) p s) ≡ answers.Good)
+      ↔ (countOf faulty (intervalLines r b (r .intervals) 0 p s) ≡ 0))
+      [ true ↦ (λ e. faults-skipped (r .intervals) 0 p s, λ e. refl) | false ↦ faults-judged (r .intervals) 0 p s ]
+
+  faults-blocks : (k : ℕ) (p : Place) (s : List ℕ) → (judgeBlocks r k p s ≡ answers.Good) ↔ (countOf faulty (blockLines r k p s) ≡ 0)
+  unfolding judgeBlocks firstOf blockLines countOf
+  faults-blocks zero p s = (λ e. refl, λ e. refl)
+  faults-blocks (suc k) p s =
+      both-ways (orElse-good (judgeBlock r p s) _) (rw count-append (none-of-two _ _)) (fault-block p s)
+      (faults-blocks k (nextBlock (r .intervals) p) (drop (r .intervals * (r .size + 8)) s))
+
+read-plain : (d : Description) → rulesOf d (readAll d) .application ≡ false
+unfolding rulesOf readAll columnsOf applicationKnown
+read-plain d = refl
+
+-- a READ (16) with code 001 of the whole segment is judged good exactly where no line is faulty
+pub faults-are-judged : (d : Description) (s : List ℕ) → Segment d → lengthOf d ≡ length s → (d .kind ≡ 0 → ⊥)
+    → (judgeBlocks (rulesOf d (readAll d)) (d .count) (startOf d (readAll d)) s ≡ answers.Good) ↔ (countOf faulty (linesOf d s) ≡ 0)
+faults-are-judged d s g long n =
+    rw (lines-are d s g long n) (faults-blocks (rulesOf d (readAll d)) (read-plain d) (d .count) (startOf d (readAll d)) s)
+
+-- ---- the contract of `list` leaves no choice
+pub listed-one : {input out left left′ : List ℕ} {r r′ : ℕ} → Listed input out r left → Listed input out r′ left′ → (r ≡ r′) × (left ≡ left′)
+listed-one p q = (p .count ∙ sym (q .count), p .text ∙ sym (q .text))
+
+-- ---- a listing has at most 524,288 bytes
+numbers-most : (l f k : ℕ) → length (numbersText l f k) ≤ 88
+unfolding numbersText intervalsText faultsText skippedText
+numbers-most l f k = simp length-append (omega (arith, decimal-most l, decimal-most f, decimal-most k))
+
+refused-most : (a : Answer) → length (refusedText a) ≤ 29
+unfolding refusedText
+refused-most a = simp length-append (omega (arith, decimal-most (numberOf a)))
+
+listed-most : (d : Description) (s : List ℕ) → Segment d → lengthOf d ≡ length s → length s ≤ 65536 → length (listedText d s) ≤ 524288
+unfolding listedText totalText headerText
+listed-most d s g long h =
+    simp length-append
+    (omega (
+      arith,
+      lines-most (linesOf d s),
+      lines-length d s g long,
+      numbers-most (length (linesOf d s)) (countOf faulty (linesOf d s)) (countOf skips (linesOf d s)),
+    ))
+
+pub listing-most : (input : List ℕ) → length (listing input) ≤ 524288
+unfolding listing segmentIn
+listing-most input = by (isGood (recordAnswer input)) refl
+  where
+    by : (b : Bool) → isGood (recordAnswer input) ≡ b
+        → length (cond b (listedText (describedBy input) (segmentIn input)) (refusedText (recordAnswer input))) ≤ 524288
+    by true e =
+        let w = record-whole input e in
+        listed-most _ _ (w .segment) (sym (w .length)) (omega (arith, length-drop 19 input, w .frame .whole, w .frame .most))
+    by false e = omega (arith, refused-most (recordAnswer input))
+
+-- so a buffer of that length takes any listing in full
+pub listed-fits : {input out left : List ℕ} {r : ℕ} → Listed input out r left → 524288 ≡ length out → r ≤ length left
+listed-fits {input} {out} p h = omega (arith, p .count, listing-most input, ap length (p .text), laid-length 0 (listing input) out)
