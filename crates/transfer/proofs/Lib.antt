@@ -1,4 +1,5 @@
 pub mod Shapes
+pub mod Steps
 pub mod Stored
 pub mod Checked
 pub mod Wrong
