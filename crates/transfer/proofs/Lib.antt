@@ -1,6 +1,7 @@
 pub mod Shapes
 pub mod Steps
-pub mod Stored
+pub mod Outcomes
 pub mod Checked
+pub mod Stored
 pub mod Wrong
 pub mod Demands
