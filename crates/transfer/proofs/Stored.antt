@@ -36,11 +36,11 @@ module _ (d : Description) (c : Command) (segment buffer : List ℕ) (r : Ready 
   room : length buffer ≡ movedOf d c
   room = r .room ∙ room-moved d c (ap isVerify w)
 
-  enough : whole d c ≡ false → c .length * (intervalsOf d * sizeOf d) ≡ length buffer
+  pub enough : whole d c ≡ false → c .length * (intervalsOf d * sizeOf d) ≡ length buffer
   enough e = moved-intervals d c (r .described) (parted d c e .zero) ∙ sym room
 
   -- fields that are inserted
-  inserted : whole d c ≡ false → storedBlocks (sizeOf d) (intervalsOf d) (c .length) (marksOf d c) buffer ≡ received d c buffer
+  pub inserted : whole d c ≡ false → storedBlocks (sizeOf d) (intervalsOf d) (c .length) (marksOf d c) buffer ≡ received d c buffer
   inserted e = received-parted d c buffer (sizeOf d) (intervalsOf d) (marksOf d c) e refl refl refl
 
   pub received-length : length (received d c buffer) ≡ spanOf d c
