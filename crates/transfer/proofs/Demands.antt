@@ -1,12 +1,13 @@
 -- Demands 1 and 2: what holds of every command's outcome, `executed`.
 -- Assumes nothing.
 use mathlib.Core.Path.{_≡_, refl, sym, ap, _∙_}
-use mathlib.Core.Logic.{_↔_}
+use mathlib.Core.Logic.{_↔_, ⊎-elim}
 use mathlib.Core.Bool.{Bool, true, false, not, cond, true≢false}
 use mathlib.Core.List.{List}
 use Prim.Native.Nat.{ℕ, _+_, _*_, _%_, _^_, _≤_, _<_}
-use native.Mathlib.Nat.{mod-lt}
+use native.Mathlib.Nat.{mod-lt, le-of-eq}
 use native.Mathlib.Omega.{arith}
+use borrow.Author.Tests.{eqb-true, eqb-false}
 use lib.Dec.{eqb, lit<, lit≤}
 use lib.ListN.{length}
 use Rattle.words.specs.Parts.{Bytes}
@@ -22,20 +23,23 @@ use Rattle.command.specs.declared.Decoded.the-variants.{Served}
 use Rattle.command.specs.declared.Decoded.the-variants as decoded
 use Rattle.command.specs.declared.Operation.{Operation}
 use Rattle.command.specs.declared.Operation.the-variants.{Read, Write, Verify}
-use Rattle.command.proofs.Laws.{served-bounded}
+use Rattle.command.proofs.Laws.{Bounded, served-bounded}
 use Rattle.judge.specs.FirstOf.{firstOf}
 use Rattle.judge.specs.Judge.{dataOf, fieldOf, guardWrong, applicationWrong, referenceWrong, judgeInterval, judgeBlocks}
+use Rattle.judge.proofs.FirstLaws.{good-or}
 use Rattle.judge.proofs.PieceLaws.{Verdict}
 use Rattle.checks.specs.Checks.{rulesOf, startOf, firstTag}
 use Rattle.admission.specs.declared.Admitted.{Admitted}
 use Rattle.admission.specs.declared.Admitted.the-variants.{Refused, Go}
-use Rattle.admission.specs.Admission.{refusal, admitDecoded, admitted}
+use Rattle.admission.specs.Admission.{typeRules, codeRule, checkRule, rangeRule, sizeRule, isVerify, movedOf, bufferOf, bufferRule, refusal, admitDecoded, admitted}
 use Rattle.admission.specs.Ready.{Ready}
 use Rattle.admission.proofs.Ready.{admitted-ready}
 use Rattle.transfer.specs.Transfer.{Outcome, outcome, blocksOf, whole, judgedIn, judgedFor, judged, handed, received, overwritten, performedFor, performed, executedAs, executed}
+use Rattle.transfer.proofs.Shapes.{whole-code, whole-not, received-whole, judged-plain, judged-fields}
 use Rattle.transfer.proofs.Checked.{underCheck, checkedBlocks, intervalAt, placeAt, verdictAt, FirstWrongInterval}
 use Rattle.transfer.proofs.Wrong.{blocks-good, blocks-wrong, interval-verdict}
-use Rattle.transfer.proofs.Stored.{Beside, beside-itself, overwritten-beside, overwritten-there, handed-back, same-blocks}
+use Rattle.transfer.proofs.Accepted.{asRead, inserted-accepted, received-accepted}
+use Rattle.transfer.proofs.Stored.{Beside, enough, inserted, beside-itself, overwritten-beside, overwritten-there, handed-back, same-blocks}
 
 in-table : (a : Answer) → numberOf a ≤ 14
 in-table answers.Good = lit≤ tt
@@ -310,3 +314,82 @@ module _ (d : Description) (segment command buffer : List ℕ) (c : Command)
       (c .address + j) (j * intervalsOf d + i) (judgeInterval r (placeAt d c j i) s)
   unfolding rulesOf
   guard-application-reference j i = interval-verdict (rulesOf d c) (placeAt d c j i) (intervalAt d checked j i)
+
+-- ---- a READ that asks as a good WRITE asked is good
+
+good-is : (a : Answer) → isGood a ≡ true → a ≡ answers.Good
+good-is a g = ⊎-elim (λ e. e) (λ w. absurd (true≢false (sym g ∙ w))) (good-or a)
+
+refusal-same : (d : Description) (c : Command) (b : ℕ) → isVerify (c .operation) ≡ false → refusal d (asRead c) b ≡ refusal d c b
+unfolding refusal typeRules codeRule checkRule rangeRule sizeRule movedOf bufferRule bufferOf
+refusal-same d c b v = rw v
+
+passed : (p q g g′ : Bool) (r r′ : Answer) (c k : Command) → g′ ≡ g
+    → cond p (Refused answers.Description) (cond q (Refused answers.Segment) (cond g (Go c) (Refused r))) ≡ Go c
+    → cond p (Refused answers.Description) (cond q (Refused answers.Segment) (cond g′ (Go k) (Refused r′))) ≡ Go k
+passed true q g g′ r r′ c k same e = let z : _≡_ {A = ℕ} 0 1 = cc in absurd (omega arith)
+passed false true g g′ r r′ c k same e = let z : _≡_ {A = ℕ} 0 1 = cc in absurd (omega arith)
+passed false false false g′ r r′ c k same e = let z : _≡_ {A = ℕ} 0 1 = cc in absurd (omega arith)
+passed false false true g′ r r′ c k same e = rw same refl
+
+module _ (d : Description) (segment writing buffer reading out : List ℕ) (w : Command) (bytes : Bytes writing)
+    (writes : decode writing ≡ Served w) (is-write : w .operation ≡ Write) (good-write : isGood (executed d segment writing buffer .answer) ≡ true)
+    (reads : decode reading ≡ Served (asRead w)) (room : length out ≡ length buffer) where
+  abbrev then : List ℕ
+  then = executed d segment writing buffer .segment
+
+  write-went : admitted d (length segment) writing (length buffer) ≡ Go w
+  unfolding executed
+  write-went = by (admitted d (length segment) writing (length buffer)) refl (admitted-settled d segment writing buffer w writes) good-write
+    where
+      by : (x : Admitted) → admitted d (length segment) writing (length buffer) ≡ x → Settled w x → isGood (executedAs x d segment buffer .answer) ≡ true
+          → admitted d (length segment) writing (length buffer) ≡ Go w
+      by (Refused a) e s g = absurd (true≢false (sym g ∙ s))
+      by (Go k) e s g = e ∙ ap Go s
+
+  read-went : admitted d (length then) reading (length out) ≡ Go (asRead w)
+  unfolding admitted
+  read-went =
+      rw (good-write-keeps-other-blocks d segment writing buffer w writes .long, room, reads)
+      (passed (not (isSegment d)) (not (eqb (length segment) (lengthOf d))) (isGood (refusal d w (length buffer))) (isGood (refusal d (asRead w) (length buffer)))
+      (refusal d w (length buffer)) (refusal d (asRead w) (length buffer)) w (asRead w)
+      (ap isGood (refusal-same d w (length buffer) (ap isVerify is-write))) (rw writes at write-went))
+
+  was-stored : Ready d w (length segment) (length buffer) × (blocksOf d w then ≡ received d w buffer)
+  was-stored = good-write-stores d segment writing buffer w writes is-write good-write
+
+  write-judged : cond (eqb (w .code) 0) answers.Good (judgedIn d w buffer) ≡ answers.Good
+  unfolding executed performed judged
+  write-judged =
+      ap (λ o. judgedFor o d w segment buffer) (sym is-write) ∙ sym (answer-for (judged d w segment buffer) d w segment buffer (w .operation))
+      ∙ good-is _ (rw write-went at good-write)
+
+  accepted : judgedIn d (asRead w) (received d w buffer) ≡ answers.Good
+  accepted = by (eqb (d .kind) 0) refl (eqb (w .code) 0) refl write-judged
+    where
+      bounded : Bounded w
+      bounded = served-bounded writing w writes bytes
+
+      by : (k : Bool) → eqb (d .kind) 0 ≡ k → (z : Bool) → eqb (w .code) 0 ≡ z → cond z answers.Good (judgedIn d w buffer) ≡ answers.Good
+          → judgedIn d (asRead w) (received d w buffer) ≡ answers.Good
+      by true k z e g = judged-plain d (asRead w) (received d w buffer) (eqb-true (d .kind) 0 k)
+      by false k true e g =
+          let parts = whole-not d w (eqb-false (d .kind) 0 k) (eqb-true (w .code) 0 e) in
+          judged-fields d (asRead w) (received d w buffer) (eqb-false (d .kind) 0 k)
+          ∙ ap (judgeBlocks (rulesOf d (asRead w)) (w .length) (startOf d (asRead w))) (sym (inserted d w segment buffer (was-stored .0) is-write parts))
+          ∙ inserted-accepted d w (bounded .application) (bounded .tag) buffer (le-of-eq (enough d w segment buffer (was-stored .0) is-write parts))
+      by false k false e g =
+          let n = eqb-false (d .kind) 0 k in
+          judged-fields d (asRead w) (received d w buffer) n
+          ∙ ap (judgeBlocks (rulesOf d (asRead w)) (w .length) (startOf d (asRead w))) (received-whole d w buffer (whole-code d w n (eqb-false (w .code) 0 e)))
+          ∙ received-accepted d w buffer is-write (w .length) (tag-small d w (bounded .tag)) (sym (judged-fields d w buffer n) ∙ g)
+
+  read-good : executed d then reading out .answer ≡ answers.Good
+  unfolding executed performed judged
+  read-good = rw read-went (ap (judgedIn d (asRead w)) (same-blocks d w (asRead w) then refl refl ∙ was-stored .1) ∙ accepted)
+
+  -- the same address, length, protect code and tags: the READ is good, and gives back the WRITE's buffer
+  pub written-reads-back : (executed d then reading out .answer ≡ answers.Good) × (executed d then reading out .buffer ≡ buffer)
+  unfolding whole
+  written-reads-back =
+      (read-good, read-after-write d segment writing buffer reading out w (asRead w) writes is-write good-write reads refl (ap isGood read-good) refl refl refl)
