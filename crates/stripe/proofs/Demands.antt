@@ -5,17 +5,15 @@ use mathlib.Core.Path.{_≡_, sym, ap, ap₂, _∙_}
 use mathlib.Core.Logic.{_↔_}
 use mathlib.Core.Bool.{Bool, true, false, not, _&&_, cond}
 use mathlib.Core.List.{List, _++_}
-use Prim.Native.Nat.{ℕ, zero, suc, _+_, _*_, _≤_, _<_, _-_}
-use native.Mathlib.Nat.{suc-mul, le-refl}
+use Prim.Native.Nat.{ℕ, zero, suc, _+_, _*_, _≤_, _<_}
 use native.Mathlib.Numerals.{add-one}
 use native.Mathlib.Omega.{arith}
 use borrow.Author.Tests.{eq-eqb}
 use lib.Dec.{T-not, eqb, eqb→eq}
-use lib.ListN.{length, take, drop, replicate, length-append, length-drop}
-use lib.Seq.{drop-at, take-at, take-all}
+use lib.ListN.{length, drop, length-drop}
 use Rattle.words.specs.Parts.{Bytes, put}
 use Rattle.words.specs.Xor.{xors}
-use Rattle.words.proofs.Xor.{xors-drop, xors-length, xors-comm, xors-self, xors-zero, xors-cancel}
+use Rattle.words.proofs.Xor.{xors-drop, xors-length, xors-cancel}
 use Rattle.answer.specs.declared.Answer.{Answer}
 use Rattle.answer.specs.declared.Answer.the-variants as answers
 use Rattle.segment.specs.declared.Description.{Description}
@@ -23,7 +21,7 @@ use Rattle.segment.specs.Segment.{isSegment, intervalsOf, storedOf, lengthOf}
 use Rattle.stripe.specs.Stripe.{part, xorParts, parityOf, rebuiltOf, correctedOf, Striped, striped, stripedOf, members, madeOf, restoredOf, mendedOf}
 use Rattle.stripe.specs.Error.{errorAt, memberError, xorOver}
 use Rattle.stripe.specs.Cases.{parityCase}
-use Rattle.stripe.proofs.Sums.{by-side, by-parts, all-but-one, others-only, parityOf-length, rebuiltOf-length, ends, part-length, part-before, put-part, put-other}
+use Rattle.stripe.proofs.Sums.{by-side, any-part, all-but-one, others-only, rebuiltOf-length, ends, part-length, put-part, put-other}
 use Rattle.stripe.proofs.Ladder.{same}
 use Rattle.stripe.proofs.Errors.{error-xors, drop-bytes, over-zero, over-one, of-parity}
 
@@ -59,50 +57,11 @@ module _ (long k size o : ℕ) (s : List ℕ) (bytes : Bytes s) (whole : length 
 
 -- ---- lost and rebuilt
 
--- two lists whose exclusive or is zero are one
-alike : (a b : List ℕ) → length a ≡ length b → xors a b ≡ replicate (length b) 0 → a ≡ b
-alike a b h e = sym (xors-cancel a b h) ∙ ap (λ (l : List ℕ). xors l b) e ∙ xors-comm (replicate (length b) 0) b ∙ xors-zero b
-
--- the exclusive or of the members and their parity is zero
-module _ (long k : ℕ) (s : List ℕ) (whole : length s ≡ k * long) where
-  abbrev parity : List ℕ
-  parity = parityOf long k s
-
-  parity-long : length parity ≡ long
-  parity-long = parityOf-length long k s (omega arith)
-
-  members-first : (j : ℕ) → j < k → part long j (s ++ parity) ≡ part long j s
-  members-first j h = sym (part-before long j k (s ++ parity) h) ∙ ap (part long j) (take-at s parity (k * long) whole)
-
-  parity-last : part long k (s ++ parity) ≡ parity
-  unfolding part
-  parity-last = ap (take long) (drop-at s parity (k * long) whole) ∙ take-all long parity (omega (arith, parity-long))
-
-  without-last : rebuiltOf long k k (s ++ parity) ≡ parity
-  unfolding rebuiltOf parityOf xorParts
-  without-last =
-      let none : k - k ≡ 0 = omega arith in
-      rw none (by-parts long k (replicate long 0) (s ++ parityOf long k s) s members-first)
-
-  all-zero : parityOf long (suc k) (s ++ parity) ≡ replicate long 0
-  all-zero =
-      all-but-one long k k (s ++ parity) (le-refl k) ∙ ap₂ xors without-last parity-last ∙ xors-self parity
-      ∙ ap (λ (n : ℕ). replicate n 0) parity-long
-
-  all-long : length (s ++ parity) ≡ (k + 1) * long
-  all-long = rw (length-append, whole, parity-long, add-one, suc-mul)
-
 -- of members and their parity, any part that is lost comes back byte for byte
+-- (of the parts, `member-part` and `parity-part` say that the first k are the members and that the last is the parity)
 pub lost-and-rebuilt : (long k lost : ℕ) (s parts : List ℕ) → length s ≡ k * long → lost ≤ k → parts ≡ s ++ parityOf long k s
     → rebuiltOf long k lost parts ≡ part long lost parts
-lost-and-rebuilt long k lost s parts e h is =
-    rw is
-    (alike _ _
-    (rebuiltOf-length long k lost _ h (all-long long k s e) ∙ sym size)
-    (sym (all-but-one long k lost _ h) ∙ all-zero long k s e ∙ ap (λ (n : ℕ). replicate n 0) (sym size)))
-  where
-    size : length (part long lost (s ++ parityOf long k s)) ≡ long
-    size = part-length long lost (k + 1) _ (omega arith) (all-long long k s e)
+lost-and-rebuilt long k lost s parts e h is = rw is (any-part long k s e lost h)
 
 -- no byte of the lost part is used: parts that agree elsewhere give the same
 pub lost-not-used : (long k lost : ℕ) (s t : List ℕ) → lost ≤ k → ((j : ℕ) → j ≤ k → (j ≡ lost → ⊥) → part long j s ≡ part long j t)
@@ -119,10 +78,9 @@ corrected-is-fresh long zero m s old new e h is size = absurd (omega arith)
 corrected-is-fresh long (suc k) m s old new e h is size =
     let up : suc k ≡ k + 1 = sym (add-one k) in
     let room : m * long + long ≤ length s = rw e (ends long m (suc k) h) in
-    let others : rebuiltOf long k m (put (m * long) new s) ≡ rebuiltOf long k m s =
-    others-only long k m _ s (omega arith) (λ j l n. put-other long m new s room size j n) in
-    let same-size : length (rebuiltOf long k m s) ≡ length (part long m s) =
-    rebuiltOf-length long k m s (omega arith) (rw up at e) ∙ sym (part-length long m (suc k) s h e) in
+    let others = others-only long k m (put (m * long) new s) s (omega arith) (λ j l n. put-other long m new s room size j n) in
+    let rest-long = rebuiltOf-length long k m s (omega arith) (rw up at e) in
+    let same-size : length (rebuiltOf long k m s) ≡ length (part long m s) = rest-long ∙ sym (part-length long m (suc k) s h e) in
     rw is
     (ap (λ (l : List ℕ). xors (xors l (part long m s)) new) (all-but-one long k m s (omega arith))
     ∙ ap (λ (l : List ℕ). xors l new) (xors-cancel (rebuiltOf long k m s) (part long m s) same-size)

@@ -1,18 +1,18 @@
 -- The laws of the exclusive or of parts: its length, its order, its parts.
 -- Assumes nothing.
-use mathlib.Core.Path.{_≡_, refl, sym, ap, _∙_}
+use mathlib.Core.Path.{_≡_, refl, sym, ap, ap₂, _∙_}
 use mathlib.Core.Bool.{Bool, true, false, not}
 use mathlib.Core.List.{List, [], _∷_, _++_, append-assoc}
 use Prim.Native.Nat.{ℕ, zero, suc, _+_, _*_, _≤_, _<_, _-_}
-use native.Mathlib.Nat.{suc-mul, zero-mul, add-mul, mul-le-mul-right, zero-add, suc-add}
+use native.Mathlib.Nat.{suc-mul, zero-mul, add-mul, mul-le-mul-right, zero-add, suc-add, le-refl}
 use native.Mathlib.Numerals.{add-one}
 use native.Mathlib.Omega.{arith}
 use lib.Dec.{T, ltb, ltb→lt, nltb→le}
 use lib.ListN.{length, take, drop, replicate, length-drop, length-replicate, length-append}
-use lib.Seq.{drop-drop, take-take, take-at, drop-at, length-take-le}
+use lib.Seq.{drop-drop, take-take, take-all, take-at, drop-at, length-take-le}
 use Rattle.words.specs.Parts.{put}
 use Rattle.words.specs.Xor.{xors}
-use Rattle.words.proofs.Xor.{xors-length, xors-assoc, xors-comm}
+use Rattle.words.proofs.Xor.{xors-length, xors-assoc, xors-comm, xors-self, xors-zero, xors-cancel}
 use Rattle.stripe.specs.Stripe.{part, xorParts, parityOf, rebuiltOf}
 
 pub drop-swap : (m n : ℕ) (s : List ℕ) → drop m (drop n s) ≡ drop n (drop m s)
@@ -135,6 +135,50 @@ others-only long k lost s t h same =
     (λ j l.
     part-on long (lost + 1) j s ∙ same (lost + 1 + j) (omega arith) (λ e. omega arith)
     ∙ sym (part-on long (lost + 1) j t))
+
+-- ---- members and their parity
+
+-- two lists whose exclusive or is zero are one
+alike : (a b : List ℕ) → length a ≡ length b → xors a b ≡ replicate (length b) 0 → a ≡ b
+alike a b h e = sym (xors-cancel a b h) ∙ ap (λ (l : List ℕ). xors l b) e ∙ xors-comm (replicate (length b) 0) b ∙ xors-zero b
+
+module _ (long k : ℕ) (s : List ℕ) (whole : length s ≡ k * long) where
+  abbrev parity : List ℕ
+  parity = parityOf long k s
+
+  parity-long : length parity ≡ long
+  parity-long = parityOf-length long k s (omega arith)
+
+  -- of the parts, the first k are the members and the last is the parity
+  pub member-part : (j : ℕ) → j < k → part long j (s ++ parity) ≡ part long j s
+  member-part j h = sym (part-before long j k (s ++ parity) h) ∙ ap (part long j) (take-at s parity (k * long) whole)
+
+  pub parity-part : part long k (s ++ parity) ≡ parity
+  unfolding part
+  parity-part = ap (take long) (drop-at s parity (k * long) whole) ∙ take-all long parity (omega (arith, parity-long))
+
+  without-last : rebuiltOf long k k (s ++ parity) ≡ parity
+  unfolding rebuiltOf parityOf xorParts
+  without-last =
+      let none : k - k ≡ 0 = omega arith in
+      rw none (by-parts long k (replicate long 0) (s ++ parityOf long k s) s member-part)
+
+  -- the exclusive or of them all is zero
+  all-zero : parityOf long (suc k) (s ++ parity) ≡ replicate long 0
+  all-zero =
+      all-but-one long k k (s ++ parity) (le-refl k) ∙ ap₂ xors without-last parity-part ∙ xors-self parity
+      ∙ ap (λ (n : ℕ). replicate n 0) parity-long
+
+  all-long : length (s ++ parity) ≡ (k + 1) * long
+  all-long = rw (length-append, whole, parity-long, add-one, suc-mul)
+
+  -- so that each is the exclusive or of the others
+  pub any-part : (lost : ℕ) → lost ≤ k → rebuiltOf long k lost (s ++ parity) ≡ part long lost (s ++ parity)
+  any-part lost h =
+      let size : length (part long lost (s ++ parity)) ≡ long = part-length long lost (k + 1) (s ++ parity) (omega arith) all-long in
+      alike (rebuiltOf long k lost (s ++ parity)) (part long lost (s ++ parity))
+      (rebuiltOf-length long k lost (s ++ parity) h all-long ∙ sym size)
+      (sym (all-but-one long k lost (s ++ parity) h) ∙ all-zero ∙ ap (λ (n : ℕ). replicate n 0) (sym size))
 
 -- ---- one part replaced
 pub by-side : {G : Type 0} (b : Bool) → (T b → G) → (T (not b) → G) → G

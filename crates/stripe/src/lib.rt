@@ -1,15 +1,10 @@
 // Parity of up to sixteen members, rebuilding a lost part, correcting parity.
 ghost use mathlib.Core.Path.{_≡_};
-<<<<<<< HEAD
-ghost use Prim.Native.Nat.{_*_};
-ghost use lib.ListN.{length};
-ghost use Rattle.stripe.specs.Stripe.{xorParts, striped, madeOf, restoredOf, mendedOf};
-=======
 ghost use Prim.Native.Nat.{_+_, _*_, _≤_, _<_};
 ghost use lib.ListN.{length, take, drop, replicate};
+ghost use Rattle.words.specs.Xor.{xors};
 ghost use Rattle.stripe.specs.Stretch.{strided, joined};
-ghost use Rattle.stripe.specs.Stripe.{rebuiltOf, correctedOf, striped, madeOf, restoredOf, mendedOf};
->>>>>>> stripe
+ghost use Rattle.stripe.specs.Stripe.{rebuiltOf, striped, madeOf, restoredOf, mendedOf};
 use answer::Answer;
 use segment::Description;
 
@@ -24,20 +19,41 @@ fn clear(d: &mut [u8])
     }
 }
 
-// Takes into `piece`, the stretch of an output that begins at `at`, the exclusive or of the same stretch of `count` parts of `long` bytes.
+// Makes `d` the exclusive or of itself, `a` and `b`, which are as long.
+fn xor_two(d: &mut [u8], a: &[u8], b: &[u8])
+    requires { ⌜ (length (now a) ≡ length (now d)) × (length (now b) ≡ length (now d)) ⌝ }
+    ensures { λ _. ⌜ now (d .exit) ≡ xors (xors (now (d .entry)) (now (a .entry))) (now (b .entry)) ⌝ }
+{
+    let mut i: usize = 0;
+    while i < a.len() {
+        d[i] = d[i] ^ a[i] ^ b[i];
+        i += 1;
+    }
+}
+
+// Takes into `piece`, the stretch of an output that begins at `at`, the exclusive or of the same stretch of `count` parts of `long` bytes:
+// two at a time, so that `piece` is gone through half as often.
 fn xor_stretch(piece: &mut [u8], at: usize, parts: &[u8], long: usize, count: usize)
     requires { ⌜ (at + length (now piece) ≤ long) × (count * long ≡ length (now parts)) ⌝ }
     ensures { λ _. ⌜ now (piece .exit) ≡ strided long (length (now (piece .entry))) count (now (piece .entry)) (drop at (now (parts .entry))) ⌝ }
 {
     let mut left = count;
     let mut i: usize = 0;
-    while 0 < left {
+    while 1 < left {
         let from = i + at;
         let end = from + piece.len();
-        words::xor_into(piece, &parts[from..end]);
-        i += long;
-        left -= 1;
+        let next = from + long;
+        let next_end = end + long;
+        xor_two(piece, &parts[from..end], &parts[next..next_end]);
+        i = i + long + long;
+        left -= 2;
     }
+    if left == 0 {
+        return;
+    }
+    let from = i + at;
+    let end = from + piece.len();
+    words::xor_into(piece, &parts[from..end]);
 }
 
 // Makes `piece`, the stretch of an output that begins at `at`, the same stretch of the exclusive or of `m` parts and `n` parts of `long` bytes.
@@ -92,18 +108,6 @@ fn restore(out: &mut [u8], parts: &[u8], count: usize, lost: usize)
     let end = lost * long;
     let next = end + long;
     join(out, &parts[..end], lost, &parts[next..], count - lost);
-}
-
-// Takes `old` out of `parity` and `new` into it.
-fn exchange(parity: &mut [u8], old: &[u8], new: &[u8])
-    requires { ⌜ (length (now old) ≡ length (now parity)) × (length (now new) ≡ length (now parity)) ⌝ }
-    ensures { λ _. ⌜ now (parity .exit) ≡ correctedOf (now (old .entry)) (now (new .entry)) (now (parity .entry)) ⌝ }
-{
-    let mut i: usize = 0;
-    while i < old.len() {
-        parity[i] = parity[i] ^ old[i] ^ new[i];
-        i += 1;
-    }
 }
 
 // Makes the parity of `k` members in `out`.
@@ -185,6 +189,6 @@ pub fn correct(d: Description, old: &[u8], new: &[u8], parity: &mut [u8]) -> Ans
     if parity.len() != long {
         return Answer::Stripe;
     }
-    exchange(parity, old, new);
+    xor_two(parity, old, new);
     Answer::Good
 }

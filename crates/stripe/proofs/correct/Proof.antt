@@ -7,6 +7,7 @@ use Prim.Native.Nat.{ℕ}
 use lib.Dec.{eqb, eqb→eq}
 use lib.ListN.{length}
 use Rattle.words.proofs.Choice.{and-true, and-left, and-right}
+use Rattle.words.specs.Xor.{xors}
 use Rattle.answer.specs.declared.Answer.the-variants as answers
 use Rattle.segment.specs.declared.Description.{Description}
 use Rattle.segment.specs.Segment.{isSegment, lengthOf}
@@ -41,8 +42,8 @@ module _ (d : Description) (old new parity : List ℕ) (f : Bool) (e : f ≡ isS
         room = eqb→eq (length parity) (lengthOf d) (and-right (eqb (length new) (lengthOf d)) _ lengths);
       }))
 
-  good : (l : List ℕ) → not f ≡ false → Fit d old new parity → l ≡ correctedOf old new parity → striped answers.Good l ≡ mendedOf d old new parity
-  unfolding mendedOf
+  good : (l : List ℕ) → not f ≡ false → Fit d old new parity → l ≡ xors (xors parity old) new → striped answers.Good l ≡ mendedOf d old new parity
+  unfolding mendedOf correctedOf
   good l n h m =
       shape d _ parity _ f e l n (h .typed)
       (and-true (eqb (length old) (lengthOf d)) _ (same (length old) (lengthOf d) (h .old-whole))
@@ -70,8 +71,8 @@ returns-4 c = refused _ _ _ _ _ (c .before .before .before .before .before .befo
 returns-5 : tie.Need-returns-5
 returns-5 c = refused _ _ _ _ _ (c .before .before .before .before .before .before .before .fit .ensures) (c .before .before .before .before .before .before .if1 .left) (λ f. c .if5 .taken (cc (f .room, c .before .before .before .length .ensures)))
 
-exchange-requires : tie.Need-exchange-requires
-exchange-requires c κs = search needs
+xor-two-requires : tie.Need-xor-two-requires
+xor-two-requires c κs = search needs
 
 same-length : tie.Need-same-length
 same-length c = search needs
@@ -82,7 +83,7 @@ returns-6 c =
     let long = tests .before .before .before .length .ensures in
     good _ _ _ _ _ (tests .before .before .before .before .before .before .before .fit .ensures) _ (tests .before .before .before .before .before .before .if1 .left)
     (record { typed = tests .before .before .before .before .if2 .left; old-whole = cc (tests .before .before .if3 .left, long); new-whole = cc (tests .before .if4 .left, long); room = cc (tests .if5 .left, long) })
-    (c .before .before .exchange .ensures)
+    (c .before .before .xor-two .ensures)
 
 pub correct-spec : {M : Type 1} → statement M
 correct-spec =
@@ -95,6 +96,6 @@ correct-spec =
     returns-3
     returns-4
     returns-5
-    exchange-requires
+    xor-two-requires
     same-length
     returns-6)

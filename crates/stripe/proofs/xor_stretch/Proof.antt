@@ -1,4 +1,4 @@
--- `stripe::xor_stretch`: what stands, with the parts that are left, gives what all parts give.
+-- `stripe::xor_stretch`: what stands, with the parts that are left, gives what all parts give; two parts are two turns of one.
 -- Assumes nothing.
 use mathlib.Core.Path.{_≡_, refl, sym, ap, _∙_}
 use mathlib.Core.List.{List}
@@ -24,6 +24,9 @@ record Going (piece₀ parts : List ℕ) (at long count : ℕ) (piece : List ℕ
 within : {piece₀ parts piece : List ℕ} {at long count left i : ℕ} → Going piece₀ parts at long count piece left i → 0 < left → i + long ≤ length parts
 within {long = long} {i = i} g h = peel-within _ i long _ h (g .from)
 
+within-two : {piece₀ parts piece : List ℕ} {at long count left i : ℕ} → Going piece₀ parts at long count piece left i → 1 < left → i + long + long ≤ length parts
+within-two {long = long} {left = left} {i = i} g h = peel-within (left - 1) (i + long) long _ (omega arith) (peel-rest left i long _ (omega arith) (g .from))
+
 reach : {piece₀ parts piece : List ℕ} {at long count left i : ℕ} → Going piece₀ parts at long count piece left i → 0 < left → i + at + length piece ≤ length parts
 reach g h = omega (arith, within g h, g .kept, g .near)
 
@@ -42,18 +45,33 @@ end-made long n zero piece s whole h e = e
 end-made long n (suc left) piece s whole h e = absurd (omega arith)
 
 turn : {piece₀ parts piece new : List ℕ} {at long count left i : ℕ} → Going piece₀ parts at long count piece left i → 0 < left
-    → new ≡ xors piece (take (i + at + length piece - (i + at)) (drop (i + at) parts)) → Going piece₀ parts at long count new (left - 1) (i + long)
+    → new ≡ xors piece (take (length piece₀) (drop (i + at) parts)) → Going piece₀ parts at long count new (left - 1) (i + long)
 turn {piece₀} {parts} {piece} {new} {at} {long} {count} {left} {i} g h w =
-    let same : i + at + length piece - (i + at) ≡ length piece₀ = omega (arith, g .kept) in
     let fits : i + long ≤ length parts = within g h in
     let part : length (take (length piece₀) (drop (i + at) parts)) ≡ length piece₀ = simp (length-take, length-drop) (omega (arith, g .near)) in
-    let made : new ≡ xors piece (take (length piece₀) (drop (i + at) parts)) = rw same at w in
     record {
-      kept = ap length made ∙ xors-length piece _ (g .kept ∙ sym part) ∙ g .kept;
+      kept = ap length w ∙ xors-length piece _ (g .kept ∙ sym part) ∙ g .kept;
       near = g .near;
       from = peel-rest left i long _ h (g .from);
-      made = rw made (next-made long (length piece₀) left i at piece parts _ h (g .made));
+      made = rw w (next-made long (length piece₀) left i at piece parts _ h (g .made));
     }
+
+turn-two : {piece₀ parts piece new : List ℕ} {at long count left i : ℕ} → Going piece₀ parts at long count piece left i → 1 < left
+    → new
+    ≡ xors (xors piece (take (i + at + length piece - (i + at)) (drop (i + at) parts))) (take (i + at + length piece + long - (i + at + long)) (drop (i + at + long) parts))
+    → Going piece₀ parts at long count new (left - 2) (i + long + long)
+turn-two {piece₀} {parts} {piece} {new} {at} {long} {count} {left} {i} g h w =
+    let one : i + at + length piece - (i + at) ≡ length piece₀ = omega (arith, g .kept) in
+    let two : i + at + length piece + long - (i + at + long) ≡ length piece₀ = omega (arith, g .kept) in
+    let over : i + at + long ≡ i + long + at = omega arith in
+    let down : left - 2 ≡ left - 1 - 1 = omega arith in
+    rw down (turn (turn g (omega arith) refl) (omega arith) (rw (one, two, over) at w))
+
+last : {piece₀ parts piece new : List ℕ} {at long count left i : ℕ} → Going piece₀ parts at long count piece left i → left ≤ 1 → (left ≡ 0 → ⊥)
+    → new ≡ xors piece (take (i + at + length piece - (i + at)) (drop (i + at) parts)) → new ≡ strided long (length piece₀) count piece₀ (drop at parts)
+last {piece₀} {piece = piece} {at = at} {left = left} {i = i} g h n w =
+    let one : i + at + length piece - (i + at) ≡ length piece₀ = omega (arith, g .kept) in
+    end-made _ _ (left - 1) _ _ _ (omega arith) (turn g (omega arith) (rw one at w) .made)
 
 abbrev Inv-loop : tie.InvT-loop
 Inv-loop piece₀ at parts long count left₀ i₀ piece left i = Going piece₀ parts at long count piece left i
@@ -67,27 +85,47 @@ loop-holds c =
     record { kept = refl; near = pre .0; from = rw zero-add (pre .1); made = rw zero-add refl }
 
 add-from : tie.Need-add-from Inv-loop μ-loop
-add-from c = omega (arith, reach (c .before .loop .inv) (c .loop-test .taken), c .before .before .before .before .good)
+add-from c = omega (arith, within-two (c .before .loop .inv) (c .loop-test .taken), c .before .loop .inv .kept, c .before .loop .inv .near, c .before .before .before .before .good)
 
 add-end : tie.Need-add-end Inv-loop μ-loop
-add-end c = omega (arith, reach (c .before .loop .inv) (c .loop-test .taken), c .before .before .before .before .good)
+add-end c = omega (arith, within-two (c .before .loop .inv) (c .loop-test .taken), c .before .loop .inv .kept, c .before .loop .inv .near, c .before .before .before .before .good)
 
-sub-xor-into : tie.Need-sub-xor-into Inv-loop μ-loop
-sub-xor-into c = search needs
+add-next : tie.Need-add-next Inv-loop μ-loop
+add-next c = omega (arith, within-two (c .before .loop .inv) (c .loop-test .taken), c .before .loop .inv .kept, c .before .loop .inv .near, c .before .before .before .before .good)
 
-part-xor-into-start : tie.Need-part-xor-into-start Inv-loop μ-loop
-part-xor-into-start c = search needs
+add-next-end : tie.Need-add-next-end Inv-loop μ-loop
+add-next-end c = omega (arith, within-two (c .before .loop .inv) (c .loop-test .taken), c .before .loop .inv .kept, c .before .loop .inv .near, c .before .before .before .before .good)
 
-part-xor-into-end : tie.Need-part-xor-into-end Inv-loop μ-loop
-part-xor-into-end c = reach (c .before .before .loop .inv) (c .before .loop-test .taken)
+sub-xor-two : tie.Need-sub-xor-two Inv-loop μ-loop
+sub-xor-two c = search needs
 
-xor-into-requires : tie.Need-xor-into-requires Inv-loop μ-loop
-xor-into-requires c κs = search needs
+part-xor-two-start : tie.Need-part-xor-two-start Inv-loop μ-loop
+part-xor-two-start c = search needs
+
+part-xor-two-end : tie.Need-part-xor-two-end Inv-loop μ-loop
+part-xor-two-end c = omega (arith, within-two (c .before .before .loop .inv) (c .before .loop-test .taken), c .before .before .loop .inv .kept, c .before .before .loop .inv .near)
+
+sub-xor-two-2 : tie.Need-sub-xor-two-2 Inv-loop μ-loop
+sub-xor-two-2 c = search needs
+
+part-xor-two-start-2 : tie.Need-part-xor-two-start-2 Inv-loop μ-loop
+part-xor-two-start-2 c = search needs
+
+part-xor-two-end-2 : tie.Need-part-xor-two-end-2 Inv-loop μ-loop
+part-xor-two-end-2 c = omega (arith, within-two (c .before .before .before .loop .inv) (c .before .before .loop-test .taken), c .before .before .before .loop .inv .kept, c .before .before .before .loop .inv .near)
+
+xor-two-requires : tie.Need-xor-two-requires Inv-loop μ-loop
+xor-two-requires c κs = search needs
 
 add-i : tie.Need-add-i Inv-loop μ-loop
 add-i c =
-    let here = c .before .before .before .before .before in
-    omega (arith, within (here .before .loop .inv) (here .loop-test .taken), here .before .before .before .before .good)
+    let here = c .before .before .before .before .before .before in
+    omega (arith, within-two (here .before .loop .inv) (here .loop-test .taken), here .before .before .before .before .good)
+
+add-i-2 : tie.Need-add-i-2 Inv-loop μ-loop
+add-i-2 c =
+    let here = c .before .before .before .before .before .before in
+    omega (arith, within-two (here .before .loop .inv) (here .loop-test .taken), here .before .before .before .before .good)
 
 sub-left : tie.Need-sub-left Inv-loop μ-loop
 sub-left c = search needs
@@ -96,15 +134,39 @@ loop-less : tie.Need-loop-less Inv-loop μ-loop
 loop-less c = search needs
 
 loop-again : tie.Need-loop-again Inv-loop μ-loop
-loop-again c = search turn
+loop-again c = search turn-two
 
 same-length : tie.Need-same-length Inv-loop μ-loop
 same-length c = search needs
 
 returns : tie.Need-returns Inv-loop μ-loop
 returns c =
-    let l = c .before .loop in
-    end-made _ _ (l .left) _ _ _ (c .loop-test .left) (l .inv .made)
+    let l = c .before .before .loop in
+    end-made _ _ (l .left) _ _ _ (omega arith) (l .inv .made)
+
+add-from-2 : tie.Need-add-from-2 Inv-loop μ-loop
+add-from-2 c = omega (arith, reach (c .before .before .loop .inv) (omega (arith, c .if1 .left)), c .before .before .before .before .before .good)
+
+add-end-2 : tie.Need-add-end-2 Inv-loop μ-loop
+add-end-2 c = omega (arith, reach (c .before .before .loop .inv) (omega (arith, c .if1 .left)), c .before .before .before .before .before .good)
+
+sub-xor-into : tie.Need-sub-xor-into Inv-loop μ-loop
+sub-xor-into c = search needs
+
+part-xor-into-start : tie.Need-part-xor-into-start Inv-loop μ-loop
+part-xor-into-start c = search needs
+
+part-xor-into-end : tie.Need-part-xor-into-end Inv-loop μ-loop
+part-xor-into-end c = reach (c .before .before .before .loop .inv) (omega (arith, c .before .if1 .left))
+
+xor-into-requires : tie.Need-xor-into-requires Inv-loop μ-loop
+xor-into-requires c κs = search needs
+
+same-length-2 : tie.Need-same-length-2 Inv-loop μ-loop
+same-length-2 c = search needs
+
+returns-2 : tie.Need-returns-2 Inv-loop μ-loop
+returns-2 c = search last
 
 pub xor-stretch-spec : {M : Type 1} → statement M
 xor-stretch-spec =
@@ -115,13 +177,27 @@ xor-stretch-spec =
     loop-holds
     add-from
     add-end
-    sub-xor-into
-    part-xor-into-start
-    part-xor-into-end
-    xor-into-requires
+    add-next
+    add-next-end
+    sub-xor-two
+    part-xor-two-start
+    part-xor-two-end
+    sub-xor-two-2
+    part-xor-two-start-2
+    part-xor-two-end-2
+    xor-two-requires
     add-i
+    add-i-2
     sub-left
     loop-less
     loop-again
     same-length
-    returns)
+    returns
+    add-from-2
+    add-end-2
+    sub-xor-into
+    part-xor-into-start
+    part-xor-into-end
+    xor-into-requires
+    same-length-2
+    returns-2)

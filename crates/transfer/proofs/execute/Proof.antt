@@ -1,42 +1,35 @@
+-- `transfer::execute`: what admission refuses is refused; what it lets go on is performed.
+-- Assumes nothing.
+use mathlib.Core.Path.{sym, _∙_}
+use Rattle.admission.proofs.Ready.{admitted-ready}
+use Rattle.transfer.proofs.Outcomes.{refused-outcome, went-outcome}
 use borrow.Author.Needs.{needs}
 use Rattle.transfer.proofs.execute.Statement.{statement}
 use Rattle.transfer.proofs.execute.Tie as tie
-use Rattle.transfer.proofs.execute.Reads as reads
-use Rattle.transfer.proofs.execute.Lts as lts
-use Rattle.admission.proofs.admit.Reads as admit-reads
-use Rattle.transfer.proofs.perform.Reads as perform-reads
 
--- src/lib.rt:149:9
 admit-requires : tie.Need-admit-requires
 admit-requires c κs = search needs
 
--- src/lib.rt:151:27
 enum-known-decided : tie.Need-enum-known-decided
 enum-known-decided c = search needs
 
--- src/lib.rt:152:22
 enum-known-decided-2 : tie.Need-enum-known-decided-2
 enum-known-decided-2 c = search needs
 
--- src/lib.rt:152:28
 perform-requires : tie.Need-perform-requires
-perform-requires c κs = search needs
+perform-requires c κs = admitted-ready _ _ _ _ _ (sym (c .before .before .before .before .before .admit .ensures) ∙ c .before .before .before .decided2 .given .1)
 
--- src/lib.rt:146:1
 returns : tie.Need-returns
-returns c = search needs
+returns c = refused-outcome _ _ _ _ _ (sym (c .before .before .before .admit .ensures) ∙ c .before .decided .given .1)
 
--- src/lib.rt:146:1
 same-length : tie.Need-same-length
 same-length c = search needs
 
--- src/lib.rt:146:1
 same-length-2 : tie.Need-same-length-2
 same-length-2 c = search needs
 
--- src/lib.rt:146:1
 returns-2 : tie.Need-returns-2
-returns-2 c = search needs
+returns-2 c = went-outcome _ _ _ _ _ _ _ _ (sym (c .before .before .before .before .before .before .before .before .before .before .admit .ensures) ∙ c .before .before .before .before .before .before .before .before .decided2 .given .1) (c .before .before .before .before .perform .ensures)
 
 pub execute-spec : {M : Type 1} → statement M
 execute-spec =

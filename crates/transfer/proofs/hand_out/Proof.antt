@@ -1,53 +1,41 @@
+-- `transfer::hand_out`: whole blocks are copied, others stripped.
+-- Assumes nothing.
+use mathlib.Core.Path.{sym, ap, _∙_}
+use native.Mathlib.Omega.{arith}
+use Rattle.transfer.proofs.Shapes.{moved-when-whole, parted, handed-whole, handed-parted, strip-fits, intervals-few}
 use borrow.Author.Needs.{needs}
 use Rattle.transfer.proofs.hand_out.Statement.{statement}
 use Rattle.transfer.proofs.hand_out.Tie as tie
-use Rattle.transfer.proofs.hand_out.Reads as reads
-use Rattle.transfer.proofs.hand_out.Lts as lts
-use Rattle.blocks.proofs.strip.Reads as strip-reads
-use Rattle.segment.proofs.intervals.Reads as intervals-reads
-use Rattle.segment.proofs.size.Reads as size-reads
-use Rattle.transfer.proofs.moved_whole.Reads as moved-whole-reads
-use Rattle.words.proofs.copy.Reads as copy-reads
 
--- src/lib.rt:50:8
 moved-whole-requires : tie.Need-moved-whole-requires
 moved-whole-requires c κs = search needs
 
--- src/lib.rt:51:9
 copy-requires : tie.Need-copy-requires
-copy-requires c κs = search needs
+copy-requires c κs = c .before .before .before .before .before .pre .0 .long ∙ sym (moved-when-whole _ _ (c .before .before .before .before .before .pre .0 .described) (c .before .before .before .before .before .pre .1 .plain) (sym (c .before .before .moved-whole .ensures) ∙ c .before .if1 .taken)) ∙ sym (c .before .before .before .before .before .pre .1 .room)
 
--- src/lib.rt:52:9
 same-length : tie.Need-same-length
 same-length c = search needs
 
--- src/lib.rt:52:9
 returns : tie.Need-returns
-returns c = search needs
+returns c = c .before .before .copy .ensures ∙ sym (handed-whole _ _ _ (sym (c .before .before .before .before .before .moved-whole .ensures) ∙ c .before .before .before .before .if1 .taken))
 
--- src/lib.rt:54:9
 size-requires : tie.Need-size-requires
-size-requires c κs = search needs
+size-requires c κs = c .before .before .before .before .pre .0 .described
 
--- src/lib.rt:55:37
 intervals-requires : tie.Need-intervals-requires
-intervals-requires c κs = search needs
+intervals-requires c κs = c .before .before .before .before .before .pre .0 .described
 
--- src/lib.rt:55:17
 mul-count : tie.Need-mul-count
-mul-count c = search needs
+mul-count c = rw (c .intervals .ensures) (omega (arith, intervals-few (c .before .before .before .before .before .before .args .d) (c .before .before .before .before .before .before .args .c) (c .before .before .before .before .before .before .pre .0 .described) (c .before .before .before .before .before .before .pre .0 .few)))
 
--- src/lib.rt:56:5
 strip-requires : tie.Need-strip-requires
-strip-requires c κs = search needs
+strip-requires c κs = let f = strip-fits _ (c .before .before .before .before .before .before .before .args .c) _ _ (c .before .before .size .ensures) (c .before .intervals .ensures) _ _ (c .before .before .before .before .before .before .before .pre .0) (c .before .before .before .before .before .before .before .pre .1) (parted _ _ (sym (c .before .before .before .before .moved-whole .ensures) ∙ c .before .before .before .if1 .left)) in (f .0, f .1)
 
--- src/lib.rt:45:1
 same-length-2 : tie.Need-same-length-2
 same-length-2 c = search needs
 
--- src/lib.rt:45:1
 returns-2 : tie.Need-returns-2
-returns-2 c = search needs
+returns-2 c = handed-parted _ _ _ _ _ _ (sym (c .before .before .before .before .before .before .before .moved-whole .ensures) ∙ c .before .before .before .before .before .before .if1 .left) (c .before .before .before .before .before .size .ensures) (c .before .before .before .before .intervals .ensures) (c .before .before .strip .ensures)
 
 pub hand-out-spec : {M : Type 1} → statement M
 hand-out-spec =

@@ -1,31 +1,25 @@
+-- `transfer::judge_all`: type 0 checks nothing; every other is a run of blocks.
+-- Assumes nothing.
+use mathlib.Core.Path.{sym, ap, _∙_}
+use Rattle.transfer.proofs.Shapes.{judged-plain, judged-fields, run}
 use borrow.Author.Needs.{needs}
 use Rattle.transfer.proofs.judge_all.Statement.{statement}
 use Rattle.transfer.proofs.judge_all.Tie as tie
-use Rattle.transfer.proofs.judge_all.Reads as reads
-use Rattle.transfer.proofs.judge_all.Lts as lts
-use Rattle.checks.proofs.rules.Reads as rules-reads
-use Rattle.checks.proofs.start.Reads as start-reads
-use Rattle.judge.proofs.judge_blocks.Reads as judge-blocks-reads
 
--- src/lib.rt:37:9
 returns : tie.Need-returns
-returns c = search needs
+returns c = sym (judged-plain _ _ _ (c .if1 .taken))
 
--- src/lib.rt:39:9
 rules-requires : tie.Need-rules-requires
-rules-requires c κs = search needs
+rules-requires c κs = c .before .before .before .pre .1 .described
 
--- src/lib.rt:40:9
 start-requires : tie.Need-start-requires
 start-requires c κs = search needs
 
--- src/lib.rt:41:5
 judge-blocks-requires : tie.Need-judge-blocks-requires
-judge-blocks-requires c κs = search needs
+judge-blocks-requires c κs = (c .before .before .before .before .before .pre .0, rw (c .before .rules .ensures, c .start .ensures) (run _ _ _ (c .before .before .before .before .before .pre .1) (c .before .before .if1 .left)))
 
--- src/lib.rt:31:1
 returns-2 : tie.Need-returns-2
-returns-2 c = search needs
+returns-2 c = c .judge-blocks .ensures ∙ rw (c .before .before .rules .ensures, c .before .start .ensures) (sym (judged-fields _ _ _ (c .before .before .before .if1 .left)))
 
 pub judge-all-spec : {M : Type 1} → statement M
 judge-all-spec =

@@ -1,20 +1,19 @@
+-- `transfer::moved_whole`: the type and the code decide.
+-- Assumes nothing.
+use mathlib.Core.Path.{sym, ap, _∙_}
+use Rattle.transfer.proofs.Shapes.{whole-plain, whole-code, whole-not}
 use borrow.Author.Needs.{needs}
 use Rattle.transfer.proofs.moved_whole.Statement.{statement}
 use Rattle.transfer.proofs.moved_whole.Tie as tie
-use Rattle.transfer.proofs.moved_whole.Reads as reads
-use Rattle.transfer.proofs.moved_whole.Lts as lts
 
--- src/lib.rt:22:9
 returns : tie.Need-returns
-returns c = search needs
+returns c = sym (whole-plain _ _ (c .if1 .taken))
 
--- src/lib.rt:25:9
 returns-2 : tie.Need-returns-2
-returns-2 c = search needs
+returns-2 c = sym (whole-not _ _ (c .before .before .if1 .left) (c .if2 .taken))
 
--- src/lib.rt:18:1
 returns-3 : tie.Need-returns-3
-returns-3 c = search needs
+returns-3 c = sym (whole-code _ _ (c .before .before .if1 .left) (c .if2 .left))
 
 pub moved-whole-spec : {M : Type 1} → statement M
 moved-whole-spec = tie.close (tie.spec returns returns-2 returns-3)

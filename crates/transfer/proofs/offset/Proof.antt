@@ -1,25 +1,26 @@
+-- `transfer::offset`: the blocks before it, whole.
+-- Assumes nothing.
+use mathlib.Core.Path.{sym, ap, _∙_}
+use Prim.Native.Nat.{ℕ, _*_, _-_}
+use native.Mathlib.Omega.{arith}
+use Rattle.transfer.specs.Transfer.{offsetOf}
+use Rattle.transfer.proofs.Shapes.{offset-few}
 use borrow.Author.Needs.{needs}
 use Rattle.transfer.proofs.offset.Statement.{statement}
 use Rattle.transfer.proofs.offset.Tie as tie
-use Rattle.transfer.proofs.offset.Reads as reads
-use Rattle.transfer.proofs.offset.Lts as lts
-use Rattle.segment.proofs.stored.Reads as stored-reads
 
--- src/lib.rt:117:6
 sub-result : tie.Need-sub-result
 sub-result c = search needs
 
--- src/lib.rt:117:38
 stored-requires : tie.Need-stored-requires
-stored-requires c κs = search needs
+stored-requires c κs = c .before .before .pre .0
 
--- src/lib.rt:117:5
 mul-result : tie.Need-mul-result
-mul-result c = search needs
+mul-result c = rw (c .stored .ensures) (omega (arith, offset-few (c .before .before .before .args .d) (c .before .before .before .args .c) (c .before .before .before .pre .0) (c .before .before .before .pre .2)))
 
--- src/lib.rt:113:1
 returns : tie.Need-returns
-returns c = search needs
+unfolding offsetOf
+returns c = ap (λ (x : ℕ). (c .before .before .before .args .c .address - c .before .before .before .args .d .first) * x) (c .stored .ensures)
 
 pub offset-spec : {M : Type 1} → statement M
 offset-spec = tie.close (tie.spec sub-result stored-requires mul-result returns)

@@ -1,35 +1,27 @@
+-- `transfer::read`: judged first; only a good answer hands out.
+-- Assumes nothing.
+use Rattle.transfer.proofs.Steps.{read-good, read-refused}
 use borrow.Author.Needs.{needs}
 use Rattle.transfer.proofs.read.Statement.{statement}
 use Rattle.transfer.proofs.read.Tie as tie
-use Rattle.transfer.proofs.read.Reads as reads
-use Rattle.transfer.proofs.read.Lts as lts
-use Rattle.answer.proofs.good.Reads as good-reads
-use Rattle.transfer.proofs.hand_out.Reads as hand-out-reads
-use Rattle.transfer.proofs.judge_all.Reads as judge-all-reads
 
--- src/lib.rt:66:9
 judge-all-requires : tie.Need-judge-all-requires
-judge-all-requires c κs = search needs
+judge-all-requires c κs = (c .before .before .pre .0, c .before .before .pre .1 .0)
 
--- src/lib.rt:67:8
 good-requires : tie.Need-good-requires
 good-requires c κs = search needs
 
--- src/lib.rt:68:9
 hand-out-requires : tie.Need-hand-out-requires
-hand-out-requires c κs = search needs
+hand-out-requires c κs = (c .before .before .before .before .before .before .pre .1 .0, c .before .before .before .before .before .before .pre .1 .1)
 
--- src/lib.rt:69:9
 same-length : tie.Need-same-length
 same-length c = search needs
 
--- src/lib.rt:69:9
 returns : tie.Need-returns
-returns c = search needs
+returns c = read-good _ _ _ _ (c .before .before .before .before .before .good2 .ensures) _ _ _ (c .before .before .before .before .before .before .judge-all .ensures) (c .before .before .before .before .if1 .taken) (c .before .before .hand-out .ensures)
 
--- src/lib.rt:60:1
 returns-2 : tie.Need-returns-2
-returns-2 c = search needs
+returns-2 c = read-refused _ _ _ _ (c .before .good2 .ensures) _ _ (c .before .before .judge-all .ensures) (c .if1 .left)
 
 pub read-spec : {M : Type 1} → statement M
 read-spec =

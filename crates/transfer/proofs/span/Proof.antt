@@ -1,21 +1,23 @@
+-- `transfer::span`: its blocks, whole.
+-- Assumes nothing.
+use mathlib.Core.Path.{sym, ap, _∙_}
+use Prim.Native.Nat.{ℕ, _*_}
+use native.Mathlib.Omega.{arith}
+use Rattle.transfer.specs.Transfer.{spanOf}
+use Rattle.transfer.proofs.Shapes.{span-few}
 use borrow.Author.Needs.{needs}
 use Rattle.transfer.proofs.span.Statement.{statement}
 use Rattle.transfer.proofs.span.Tie as tie
-use Rattle.transfer.proofs.span.Reads as reads
-use Rattle.transfer.proofs.span.Lts as lts
-use Rattle.segment.proofs.stored.Reads as stored-reads
 
--- src/lib.rt:125:25
 stored-requires : tie.Need-stored-requires
-stored-requires c κs = search needs
+stored-requires c κs = c .pre .0
 
--- src/lib.rt:125:5
 mul-result : tie.Need-mul-result
-mul-result c = search needs
+mul-result c = rw (c .stored .ensures) (omega (arith, span-few (c .before .args .d) (c .before .args .c) (c .before .pre .0) (c .before .pre .1)))
 
--- src/lib.rt:121:1
 returns : tie.Need-returns
-returns c = search needs
+unfolding spanOf
+returns c = ap (λ (x : ℕ). c .before .args .c .length * x) (c .stored .ensures)
 
 pub span-spec : {M : Type 1} → statement M
 span-spec = tie.close (tie.spec stored-requires mul-result returns)

@@ -1,59 +1,45 @@
+-- `transfer::store`: whole blocks are stored as received, others with new fields.
+-- Assumes nothing.
+use mathlib.Core.Path.{sym, ap, _∙_}
+use Rattle.transfer.proofs.Shapes.{store-fits, insert-fits, parted, stored-whole, stored-parted, marks-step}
 use borrow.Author.Needs.{needs}
 use Rattle.transfer.proofs.store.Statement.{statement}
 use Rattle.transfer.proofs.store.Tie as tie
-use Rattle.transfer.proofs.store.Reads as reads
-use Rattle.transfer.proofs.store.Lts as lts
-use Rattle.blocks.proofs.insert_blocks.Reads as insert-blocks-reads
-use Rattle.blocks.proofs.store_blocks.Reads as store-blocks-reads
-use Rattle.checks.proofs.marks.Reads as marks-reads
-use Rattle.segment.proofs.intervals.Reads as intervals-reads
-use Rattle.segment.proofs.size.Reads as size-reads
-use Rattle.segment.proofs.stored.Reads as stored-reads
-use Rattle.transfer.proofs.moved_whole.Reads as moved-whole-reads
 
--- src/lib.rt:82:8
 moved-whole-requires : tie.Need-moved-whole-requires
 moved-whole-requires c κs = search needs
 
--- src/lib.rt:83:13
 stored-requires : tie.Need-stored-requires
-stored-requires c κs = search needs
+stored-requires c κs = c .before .before .before .before .pre .1 .0 .described
 
--- src/lib.rt:84:9
 store-blocks-requires : tie.Need-store-blocks-requires
-store-blocks-requires c κs = search needs
+store-blocks-requires c κs = let f = store-fits _ (c .before .before .before .before .before .before .args .c) _ _ _ _ (c .before .stored .ensures) (c .before .before .before .before .before .before .pre .1 .0) (c .before .before .before .before .before .before .pre .1 .1) (sym (c .before .before .before .moved-whole .ensures) ∙ c .before .before .if1 .taken) in (f .0, f .1)
 
--- src/lib.rt:85:9
 same-length : tie.Need-same-length
 same-length c = search needs
 
--- src/lib.rt:85:9
 returns : tie.Need-returns
-returns c = search needs
+returns c = stored-whole _ _ _ _ _ _ (sym (c .before .before .before .before .before .before .moved-whole .ensures) ∙ c .before .before .before .before .before .if1 .taken) (c .before .before .store-blocks .ensures)
 
--- src/lib.rt:87:9
 size-requires : tie.Need-size-requires
-size-requires c κs = search needs
+size-requires c κs = c .before .before .before .before .pre .1 .0 .described
 
--- src/lib.rt:88:9
 intervals-requires : tie.Need-intervals-requires
-intervals-requires c κs = search needs
+intervals-requires c κs = c .before .before .before .before .before .pre .1 .0 .described
 
--- src/lib.rt:89:9
 marks-requires : tie.Need-marks-requires
-marks-requires c κs = search needs
+marks-requires c κs = c .before .before .before .before .before .before .pre .1 .0 .described
 
--- src/lib.rt:90:5
 insert-blocks-requires : tie.Need-insert-blocks-requires
-insert-blocks-requires c κs = search needs
+insert-blocks-requires c κs =
+    let f = insert-fits _ (c .before .before .before .before .before .before .before .before .args .c) _ _ (c .before .before .before .size .ensures) (c .before .before .intervals .ensures) _ _ _ (c .before .before .before .before .before .before .before .before .pre .1 .0) (c .before .before .before .before .before .before .before .before .pre .1 .1) (parted _ _ (sym (c .before .before .before .before .before .moved-whole .ensures) ∙ c .before .before .before .before .if1 .left)) in
+    (c .before .before .before .before .before .before .before .before .pre .0, (f .0, (f .1, (f .2 .0, f .2 .1, marks-step _ _ _ (c .before .marks .ensures)))))
 
--- src/lib.rt:75:1
 same-length-2 : tie.Need-same-length-2
 same-length-2 c = search needs
 
--- src/lib.rt:75:1
 returns-2 : tie.Need-returns-2
-returns-2 c = search needs
+returns-2 c = stored-parted _ _ _ _ _ _ _ _ _ (sym (c .before .before .before .before .before .before .before .before .moved-whole .ensures) ∙ c .before .before .before .before .before .before .before .if1 .left) (c .before .before .before .before .before .before .size .ensures) (c .before .before .before .before .before .intervals .ensures) (c .before .before .before .before .marks .ensures) (c .before .before .insert-blocks .ensures)
 
 pub store-spec : {M : Type 1} → statement M
 store-spec =

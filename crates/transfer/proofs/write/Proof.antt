@@ -1,47 +1,36 @@
+-- `transfer::write`: judged first, if fields came; only a good answer stores.
+-- Assumes nothing.
+use Rattle.transfer.proofs.Steps.{write-zero, write-good, write-refused, shaped-buffer}
 use borrow.Author.Needs.{needs}
 use Rattle.transfer.proofs.write.Statement.{statement}
 use Rattle.transfer.proofs.write.Tie as tie
-use Rattle.transfer.proofs.write.Reads as reads
-use Rattle.transfer.proofs.write.Lts as lts
-use Rattle.answer.proofs.good.Reads as good-reads
-use Rattle.transfer.proofs.judge_all.Reads as judge-all-reads
-use Rattle.transfer.proofs.store.Reads as store-reads
 
--- src/lib.rt:101:9
 store-requires : tie.Need-store-requires
-store-requires c κs = search needs
+store-requires c κs = (c .before .before .before .before .before .pre .0, (c .before .before .before .before .before .pre .1 .0, c .before .before .before .before .before .pre .1 .1))
 
--- src/lib.rt:102:9
 same-length : tie.Need-same-length
 same-length c = search needs
 
--- src/lib.rt:102:9
 returns : tie.Need-returns
-returns c = search needs
+returns c = write-zero _ _ _ _ _ _ (c .before .before .before .before .if1 .taken) (c .before .before .store .ensures)
 
--- src/lib.rt:104:9
 judge-all-requires : tie.Need-judge-all-requires
-judge-all-requires c κs = search needs
+judge-all-requires c κs = (c .before .before .before .before .pre .0, shaped-buffer _ _ _ _ _ (c .before .before .before .before .pre .1 .0) (c .before .before .before .before .pre .1 .1) (c .if1 .left))
 
--- src/lib.rt:105:8
 good-requires : tie.Need-good-requires
 good-requires c κs = search needs
 
--- src/lib.rt:106:9
 store-requires-2 : tie.Need-store-requires-2
-store-requires-2 c κs = search needs
+store-requires-2 c κs = (c .before .before .before .before .before .before .before .before .pre .0, (c .before .before .before .before .before .before .before .before .pre .1 .0, c .before .before .before .before .before .before .before .before .pre .1 .1))
 
--- src/lib.rt:107:9
 same-length-2 : tie.Need-same-length-2
 same-length-2 c = search needs
 
--- src/lib.rt:107:9
 returns-2 : tie.Need-returns-2
-returns-2 c = search needs
+returns-2 c = write-good _ _ _ _ (c .before .before .before .before .before .good2 .ensures) _ _ _ _ (c .before .before .before .before .before .before .before .if1 .left) (c .before .before .before .before .before .before .judge-all .ensures) (c .before .before .before .before .if2 .taken) (c .before .before .store2 .ensures)
 
--- src/lib.rt:94:1
 returns-3 : tie.Need-returns-3
-returns-3 c = search needs
+returns-3 c = write-refused _ _ _ _ (c .before .good2 .ensures) _ _ _ (c .before .before .before .if1 .left) (c .before .before .judge-all .ensures) (c .if2 .left)
 
 pub write-spec : {M : Type 1} → statement M
 write-spec =

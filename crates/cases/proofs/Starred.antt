@@ -1,0 +1,26 @@
+-- "Starred cases are proved": each case of the table comes out of the definitions as the paper says.
+-- Assumes nothing.
+use mathlib.Core.Path.{_≡_, refl}
+use mathlib.Core.List.{map}
+use Rattle.words.specs.BigEndian.{numberFrom, number, numberAt, bytes}
+use Rattle.words.specs.Parts.{put}
+use Rattle.words.specs.Runs.{runs}
+use Rattle.words.specs.Xor.{xors}
+use Rattle.guard.specs.Guard.{guard, divide, takeOff, terms, termsOf}
+use Rattle.guard.specs.Vectors.{vectors, up, down}
+use Rattle.segment.specs.Segment.{isSegment, intervalsOf, sizeOf, storedOf, lengthOf}
+use Rattle.command.specs.Command.{recognise, fields, decodeAs, decode}
+use Rattle.judge.specs.FirstOf.{firstOf}
+use Rattle.judge.specs.Judge.{storedGuard, storedApplication, storedReference, escapes, dataOf, fieldOf, anyEscapes, guardWrong, applicationWrong, referenceWrong, judgePieces, judgeInterval, judgeIntervals, judgeBlock, judgeBlocks}
+use Rattle.blocks.specs.Blocks.{fieldBytes, withField, storedBlock, storedBlocks}
+use Rattle.admission.specs.Admission.{typeRules, codeRule, checkRule, rangeRule, movedOf, sizeRule, bufferOf, bufferRule, refusal, admitted}
+use Rattle.checks.specs.Checks.{columnsOf, applicationKnown, referenceKnown, firstTag, rulesOf, startOf}
+use Rattle.checks.specs.Inserted.{insertedApplication, insertedReference, marksOf}
+use Rattle.transfer.specs.Transfer.{offsetOf, spanOf, blocksOf, whole, judgedIn, judged, handed, received, overwritten, performed, executed}
+use Rattle.stripe.specs.Stripe.{xorParts, parityOf, stripedOf, members, madeOf}
+use Rattle.stripe.specs.Cases.{parityCase}
+use Rattle.cases.specs.Cases.{Case, result, expected, onSegments, cases}
+
+pub starred : map result cases ≡ map expected cases
+unfolding numberFrom number numberAt bytes put runs xors guard divide takeOff terms termsOf vectors up down isSegment intervalsOf sizeOf storedOf lengthOf recognise fields decodeAs decode firstOf storedGuard storedApplication storedReference escapes dataOf fieldOf anyEscapes guardWrong applicationWrong referenceWrong judgePieces judgeInterval judgeIntervals judgeBlock judgeBlocks fieldBytes withField storedBlock storedBlocks typeRules codeRule checkRule rangeRule movedOf sizeRule bufferOf bufferRule refusal admitted columnsOf applicationKnown referenceKnown firstTag rulesOf startOf insertedApplication insertedReference marksOf offsetOf spanOf blocksOf whole judgedIn judged handed received overwritten performed executed xorParts parityOf stripedOf members madeOf parityCase onSegments cases
+starred = refl

@@ -1,0 +1,98 @@
+-- "Both sides of the line": the starred cases of document 01, in one table.
+use Prim.Native.Nat.{ℕ}
+use mathlib.Core.List.{List, [], _∷_, _++_, map}
+use lib.ListN.{replicate}
+use Rattle.words.specs.BigEndian.{bytes}
+use Rattle.guard.specs.Guard.{guard}
+use Rattle.guard.specs.Vectors.{Vector, vectors}
+use Rattle.answer.specs.Answer.{numberOf, addressOf, placeOf}
+use Rattle.segment.specs.declared.Description.{Description}
+use Rattle.transfer.specs.Transfer.{Outcome, executed}
+use Rattle.stripe.specs.Stripe.{Striped, madeOf}
+use Rattle.stripe.specs.Cases.{ParityCase, parityCase}
+
+-- what comes of a case, in the paper's numbers, with every lent byte afterwards
+pub data Result : Type 0 where
+  guarded : ℕ → Result
+  -- number, address, interval, then the segment and the buffer
+  answered : ℕ → ℕ → ℕ → List ℕ → List ℕ → Result
+  -- number, then the buffer
+  made : ℕ → List ℕ → Result
+
+-- a command on a segment, with the buffer lent to it, and what is to come of it
+pub record CommandCase : Type 0 where
+  pub description : Description
+  pub segment : List ℕ
+  pub command : List ℕ
+  pub buffer : List ℕ
+  pub outcome : Result
+
+pub data Case : Type 0 where
+  guardOf : Vector → Case
+  execute : CommandCase → Case
+  parity : ParityCase → Case
+
+abbrev pub answerOf : Outcome → Result
+answerOf o = answered (numberOf (o .answer)) (addressOf (o .answer)) (placeOf (o .answer)) (o .segment) (o .buffer)
+
+abbrev pub madeIn : Striped → Result
+madeIn r = made (numberOf (r .answer)) (r .lent)
+
+-- by the definitions
+abbrev pub result : Case → Result
+result (guardOf v) = guarded (guard (v .bytes))
+result (execute c) = answerOf (executed (c .description) (c .segment) (c .command) (c .buffer))
+result (parity c) = madeIn (madeOf (c .description) (c .count) (c .members) (replicate 16 0))
+
+-- by the paper
+abbrev pub expected : Case → Result
+expected (guardOf v) = guarded (v .guarded)
+expected (execute c) = c .outcome
+expected (parity c) = made 0 (c .parity)
+
+-- "call this segment M; ATO is 0": its description and its blocks
+abbrev describedM : Description
+describedM = record { kind = 1; block = 8; exponent = 0; first = 7; count = 3; ato = 0 }
+
+abbrev first : List ℕ
+first = bytes 16 0x0000000000000001_8BB7_0000_00000007
+
+abbrev second : List ℕ
+second = bytes 16 0x0000000000000002_9CD9_0000_00000007
+
+abbrev third : List ℕ
+third = bytes 16 0x0000000000000003_0000_FFFF_00000000
+
+abbrev M : List ℕ
+M = first ++ second ++ third
+
+-- a command on M
+abbrev onM : ℕ → List ℕ → Result → Case
+onM c buffer r = execute (record { description = describedM; segment = M; command = bytes 10 c; buffer = buffer; outcome = r })
+
+-- the command's bytes are: operation, protect byte (code 001 is 20h), address, group, length, control
+unfoldable pub onSegments : List Case
+onSegments =
+    -- READ (10) "at 7, T 2, code 001: 10, address 8, interval 1"
+    onM 0x28_20_00000007_00_0002_00 (replicate 32 0) (answered 10 8 1 M (replicate 32 0))
+    -- "the same with 011: 0"
+    ∷ onM 0x28_60_00000007_00_0002_00 (replicate 32 0) (answered 0 0 0 M (first ++ second))
+    -- "at 9, T 1, code 001: 0"
+    ∷ onM 0x28_20_00000009_00_0001_00 (replicate 16 0) (answered 0 0 0 M third)
+    -- "WRITE (10) of M's third block to 9, code 001: 8, interval 0"
+    ∷ onM 0x2A_20_00000009_00_0001_00 third (answered 8 9 0 M third)
+    -- READ (10) "at 10, T 1: 7"
+    ∷ onM 0x28_00_0000000A_00_0001_00 (replicate 8 0) (answered 7 0 0 M (replicate 8 0))
+    -- "Type 2, B 8, e 1, ATO 0, WRITE (32) code 000, first tag FFFFFFFFh, data zero: references FFFFFFFFh, then 00000000h."
+    ∷ execute
+    (record {
+      description = record { kind = 2; block = 8; exponent = 1; first = 0; count = 1; ato = 0 };
+      segment = replicate 24 0xFF;
+      command = bytes 32 0x7F_00_00000000_00_18_000B_00_00_0000000000000000_FFFFFFFF_0000_0000_00000001;
+      buffer = replicate 8 0;
+      outcome = answered 0 0 0 (bytes 24 0x00000000_0000_0000_FFFFFFFF_00000000_0000_0000_00000000) (replicate 8 0);
+    })
+    ∷ []
+
+unfoldable pub cases : List Case
+cases = map guardOf vectors ++ onSegments ++ (parity parityCase ∷ [])

@@ -1,0 +1,75 @@
+-- The intervals that a transfer checks, one by one: their bytes, their places, their verdicts.
+use Prim.Native.Nat.{ℕ, _+_, _*_, _%_, _^_, _≤_, _<_}
+use mathlib.Core.Path.{_≡_}
+use mathlib.Core.Bool.{Bool, false, cond}
+use mathlib.Core.List.{List}
+use lib.Dec.{eqb}
+use lib.ListN.{drop}
+use Rattle.answer.specs.Answer.{numberOf, addressOf, placeOf, isGood}
+use Rattle.answer.specs.declared.Answer.{Answer}
+use Rattle.answer.specs.declared.Answer.the-variants as answers
+use Rattle.segment.specs.declared.Description.{Description}
+use Rattle.segment.specs.Segment.{intervalsOf, sizeOf}
+use Rattle.command.specs.declared.Command.{Command}
+use Rattle.command.specs.declared.Operation.{Operation}
+use Rattle.command.specs.declared.Operation.the-variants.{Read, Write, Verify}
+use Rattle.judge.specs.declared.Place.{Place}
+use Rattle.judge.specs.Judge.{anyEscapes, judgeInterval}
+use Rattle.checks.specs.Checks.{rulesOf, firstTag}
+use Rattle.transfer.specs.Transfer.{blocksOf}
+
+-- "READ and VERIFY check the stored intervals. WRITE checks the incoming ones"
+abbrev pub underCheck : Operation → Description → Command → List ℕ → List ℕ → List ℕ
+underCheck Read d c segment buffer = blocksOf d c segment
+underCheck Verify d c segment buffer = blocksOf d c segment
+underCheck Write d c segment buffer = buffer
+
+-- how many blocks are checked: all, but none in type 0 and none of a WRITE with 000
+abbrev pub checkedBlocks : Operation → Description → Command → ℕ
+checkedBlocks Read d c = cond (eqb (d .kind) 0) 0 (c .length)
+checkedBlocks Verify d c = cond (eqb (d .kind) 0) 0 (c .length)
+checkedBlocks Write d c = cond (eqb (c .code) 0) 0 (cond (eqb (d .kind) 0) 0 (c .length))
+
+-- the bytes from block j on, and from its interval i on
+abbrev pub blockAt : Description → List ℕ → ℕ → List ℕ
+blockAt d s j = drop (j * (intervalsOf d * (sizeOf d + 8))) s
+
+abbrev pub intervalAt : Description → List ℕ → ℕ → ℕ → List ℕ
+intervalAt d s j i = drop (i * (sizeOf d + 8)) (blockAt d s j)
+
+-- "the block's address and the interval's place in the transfer, from 0"; "Each later expected tag is one more than the one
+-- before, modulo 4,294,967,296, interval after interval through the transfer."
+abbrev pub placeAt : Description → Command → ℕ → ℕ → Place
+placeAt d c j i =
+    record {
+      address = c .address + j;
+      interval = j * intervalsOf d + i;
+      tag = (firstTag d c + (j * intervalsOf d + i)) % 2 ^ 32;
+    }
+
+-- "If any interval of a block has it, no interval of that block is checked."
+abbrev pub skipped : Description → Command → List ℕ → ℕ → Bool
+skipped d c s j = anyEscapes (rulesOf d c .escape) (sizeOf d) (intervalsOf d) (blockAt d s j)
+
+abbrev pub verdictAt : Description → Command → List ℕ → ℕ → ℕ → Answer
+verdictAt d c s j i = cond (skipped d c s j) answers.Good (judgeInterval (rulesOf d c) (placeAt d c j i) (intervalAt d s j i))
+
+-- "Numbers 8 to 10 also give the block's address and the interval's place in the transfer"
+pub record Names (p : Place) (a : Answer) : Type 0 where
+  pub least : 8 ≤ numberOf a
+  pub most : numberOf a ≤ 10
+  pub address : addressOf a ≡ p .address
+  pub place : placeOf a ≡ p .interval
+
+-- the first wrong interval of k blocks, and the answer that names it: all before it are right, it is wrong
+pub record FirstWrongInterval (d : Description) (c : Command) (k : ℕ) (s : List ℕ) (a : Answer) : Type 0 where
+  pub block : ℕ
+  pub interval : ℕ
+  pub block-within : block < k
+  pub interval-within : interval < intervalsOf d
+  pub earlier-blocks : (j i : ℕ) → j < block → i < intervalsOf d → verdictAt d c s j i ≡ answers.Good
+  pub earlier-intervals : (i : ℕ) → i < interval → verdictAt d c s block i ≡ answers.Good
+  pub checked : skipped d c s block ≡ false
+  pub here : judgeInterval (rulesOf d c) (placeAt d c block interval) (intervalAt d s block interval) ≡ a
+  pub wrong : isGood a ≡ false
+  pub names : Names (placeAt d c block interval) a

@@ -1,0 +1,312 @@
+-- Demands 1 and 2: what holds of every command's outcome, `executed`.
+-- Assumes nothing.
+use mathlib.Core.Path.{_≡_, refl, sym, ap, _∙_}
+use mathlib.Core.Logic.{_↔_}
+use mathlib.Core.Bool.{Bool, true, false, not, cond, true≢false}
+use mathlib.Core.List.{List}
+use Prim.Native.Nat.{ℕ, _+_, _*_, _%_, _^_, _≤_, _<_}
+use native.Mathlib.Nat.{mod-lt}
+use native.Mathlib.Omega.{arith}
+use lib.Dec.{eqb, lit<, lit≤}
+use lib.ListN.{length}
+use Rattle.words.specs.Parts.{Bytes}
+use Rattle.answer.specs.Answer.{numberOf, isGood}
+use Rattle.answer.specs.declared.Answer.{Answer}
+use Rattle.answer.specs.declared.Answer.the-variants as answers
+use Rattle.segment.specs.declared.Description.{Description}
+use Rattle.segment.specs.Segment.{isSegment, intervalsOf, sizeOf, lengthOf}
+use Rattle.command.specs.Command.{decode}
+use Rattle.command.specs.declared.Command.{Command}
+use Rattle.command.specs.declared.Decoded.{Decoded}
+use Rattle.command.specs.declared.Decoded.the-variants.{Served}
+use Rattle.command.specs.declared.Decoded.the-variants as decoded
+use Rattle.command.specs.declared.Operation.{Operation}
+use Rattle.command.specs.declared.Operation.the-variants.{Read, Write, Verify}
+use Rattle.command.proofs.Laws.{served-bounded}
+use Rattle.judge.specs.FirstOf.{firstOf}
+use Rattle.judge.specs.Judge.{dataOf, fieldOf, guardWrong, applicationWrong, referenceWrong, judgeInterval, judgeBlocks}
+use Rattle.judge.proofs.PieceLaws.{Verdict}
+use Rattle.checks.specs.Checks.{rulesOf, startOf, firstTag}
+use Rattle.admission.specs.declared.Admitted.{Admitted}
+use Rattle.admission.specs.declared.Admitted.the-variants.{Refused, Go}
+use Rattle.admission.specs.Admission.{refusal, admitDecoded, admitted}
+use Rattle.admission.specs.Ready.{Ready}
+use Rattle.admission.proofs.Ready.{admitted-ready}
+use Rattle.transfer.specs.Transfer.{Outcome, outcome, blocksOf, whole, judgedIn, judgedFor, judged, handed, received, overwritten, performedFor, performed, executedAs, executed}
+use Rattle.transfer.proofs.Checked.{underCheck, checkedBlocks, intervalAt, placeAt, verdictAt, FirstWrongInterval}
+use Rattle.transfer.proofs.Wrong.{blocks-good, blocks-wrong, interval-verdict}
+use Rattle.transfer.proofs.Stored.{Beside, beside-itself, overwritten-beside, overwritten-there, handed-back, same-blocks}
+
+in-table : (a : Answer) → numberOf a ≤ 14
+in-table answers.Good = lit≤ tt
+in-table answers.Description = lit≤ tt
+in-table answers.Segment = lit≤ tt
+in-table answers.CommandLength = lit≤ tt
+in-table answers.BufferLength = lit≤ tt
+in-table answers.Operation = lit≤ tt
+in-table answers.Field = lit≤ tt
+in-table answers.Address = lit≤ tt
+in-table (answers.Guard a p) = lit≤ tt
+in-table (answers.Application a p) = lit≤ tt
+in-table (answers.Reference a p) = lit≤ tt
+in-table answers.Stripe = lit≤ tt
+in-table answers.Parameter = lit≤ tt
+in-table answers.Listing = lit≤ tt
+in-table answers.Size = lit≤ tt
+
+-- ---- what an operation leaves alone, and what it does
+module _ (a : Answer) (d : Description) (c : Command) (segment buffer : List ℕ) where
+  abbrev doing : Operation → Outcome
+  doing o = performedFor o a d c segment buffer
+
+  refused-for : (o : Operation) → isGood (doing o .answer) ≡ false → (doing o .segment ≡ segment) × (doing o .buffer ≡ buffer)
+  refused-for Read w = (refl, rw w refl)
+  refused-for Write w = (rw w refl, refl)
+  refused-for Verify w = (refl, refl)
+
+  segment-for : (o : Operation) → (o ≡ Write → ⊥) → doing o .segment ≡ segment
+  segment-for Read n = refl
+  segment-for Write n = absurd (n refl)
+  segment-for Verify n = refl
+
+  buffer-for : (o : Operation) → (o ≡ Read → ⊥) → doing o .buffer ≡ buffer
+  buffer-for Read n = absurd (n refl)
+  buffer-for Write n = refl
+  buffer-for Verify n = refl
+
+  beside-for : (o : Operation) → (o ≡ Write → Beside d c segment (overwritten d c segment buffer)) → Beside d c segment (doing o .segment)
+  beside-for Read f = beside-itself d c segment
+  beside-for Verify f = beside-itself d c segment
+  beside-for Write f = by (isGood a)
+    where
+      by : (g : Bool) → Beside d c segment (cond g (overwritten d c segment buffer) segment)
+      by true = f refl
+      by false = beside-itself d c segment
+
+  stored-for : (o : Operation) → o ≡ Write → isGood (doing o .answer) ≡ true → doing o .segment ≡ overwritten d c segment buffer
+  stored-for o e = rw e (λ g. rw g refl)
+
+  handed-for : (o : Operation) → o ≡ Read → isGood (doing o .answer) ≡ true → doing o .buffer ≡ handed d c (blocksOf d c segment)
+  handed-for o e = rw e (λ g. rw g refl)
+
+  answer-for : (o : Operation) → doing o .answer ≡ a
+  answer-for Read = refl
+  answer-for Write = refl
+  answer-for Verify = refl
+
+-- two segments with the same blocks of the transfer
+abbrev Alike : Outcome → Outcome → Type 0
+Alike x y = (x .answer ≡ y .answer) × (x .buffer ≡ y .buffer)
+
+alike-for : (d : Description) (c : Command) (s s′ buffer : List ℕ) → blocksOf d c s ≡ blocksOf d c s′ → (o : Operation) → (o ≡ Write → ⊥)
+    → Alike (performedFor o (judgedFor o d c s buffer) d c s buffer) (performedFor o (judgedFor o d c s′ buffer) d c s′ buffer)
+alike-for d c s s′ buffer e Read n = rw e (refl, refl)
+alike-for d c s s′ buffer e Write n = absurd (n refl)
+alike-for d c s s′ buffer e Verify n = rw e (refl, refl)
+
+-- ---- what a served command's admission can be
+abbrev Settled : Command → Admitted → Type 0
+Settled c (Refused a) = isGood a ≡ false
+Settled c (Go k) = k ≡ c
+
+settled : (p q g : Bool) (c : Command) (r : Answer) → isGood r ≡ g
+    → Settled c (cond p (Refused answers.Description) (cond q (Refused answers.Segment) (cond g (Go c) (Refused r))))
+settled true q g c r e = refl
+settled false true g c r e = refl
+settled false false true c r e = refl
+settled false false false c r e = e
+
+module _ (d : Description) (segment command buffer : List ℕ) where
+  -- "any two permitted answers coincide": an outcome that the contract permits is this one
+  pub outcomes-coincide : (a a′ : Answer) (s s′ b b′ : List ℕ)
+      → outcome a s b ≡ executed d segment command buffer → outcome a′ s′ b′ ≡ executed d segment command buffer
+      → (a ≡ a′) × (s ≡ s′) × (b ≡ b′)
+  outcomes-coincide a a′ s s′ b b′ p q =
+      let e : outcome a s b ≡ outcome a′ s′ b′ = p ∙ sym q in
+      (ap (λ (o : Outcome). o .answer) e, ap (λ (o : Outcome). o .segment) e, ap (λ (o : Outcome). o .buffer) e)
+
+  -- every input gets an answer of the table
+  pub one-answer : numberOf (executed d segment command buffer .answer) ≤ 14
+  one-answer = in-table (executed d segment command buffer .answer)
+
+  -- "Any answer but 0 changes no lent byte": a refused READ leaves the buffer, a refused WRITE the segment
+  pub refused-leaves-all : isGood (executed d segment command buffer .answer) ≡ false
+      → (executed d segment command buffer .segment ≡ segment) × (executed d segment command buffer .buffer ≡ buffer)
+  unfolding executed performed
+  refused-leaves-all = by (admitted d (length segment) command (length buffer))
+    where
+      by : (x : Admitted) → isGood (executedAs x d segment buffer .answer) ≡ false
+          → (executedAs x d segment buffer .segment ≡ segment) × (executedAs x d segment buffer .buffer ≡ buffer)
+      by (Refused a) w = (refl, refl)
+      by (Go c) w = refused-for (judged d c segment buffer) d c segment buffer (c .operation) w
+
+  module _ (c : Command) (served : decode command ≡ Served c) where
+    admitted-settled : Settled c (admitted d (length segment) command (length buffer))
+    unfolding admitted
+    admitted-settled =
+        rw served
+        (settled (not (isSegment d)) (not (eqb (length segment) (lengthOf d))) (isGood (refusal d c (length buffer))) c (refusal d c (length buffer)) refl)
+
+    -- what holds where nothing was done, and of a transfer that was admitted, holds of the command's outcome
+    pub served-outcome : (P : Outcome → Type 0) → ((a : Answer) → isGood a ≡ false → P (outcome a segment buffer))
+        → (Ready d c (length segment) (length buffer) → P (performed d c segment buffer)) → P (executed d segment command buffer)
+    unfolding executed
+    served-outcome P none some = by (admitted d (length segment) command (length buffer)) refl admitted-settled
+      where
+        by : (x : Admitted) → admitted d (length segment) command (length buffer) ≡ x → Settled c x → P (executedAs x d segment buffer)
+        by (Refused a) e s = none a s
+        by (Go k) e s = rw s (some (rw s at (admitted-ready d (length segment) command (length buffer) k e)))
+
+    -- "A READ or VERIFY never changes the segment."
+    pub read-or-verify-leaves-segment : (c .operation ≡ Write → ⊥) → executed d segment command buffer .segment ≡ segment
+    unfolding performed
+    read-or-verify-leaves-segment n =
+        served-outcome (λ o. o .segment ≡ segment) (λ a g. refl) (λ r. segment-for (judged d c segment buffer) d c segment buffer (c .operation) n)
+
+    -- the buffer is a READ's answer alone
+    pub write-or-verify-leaves-buffer : (c .operation ≡ Read → ⊥) → executed d segment command buffer .buffer ≡ buffer
+    unfolding performed
+    write-or-verify-leaves-buffer n =
+        served-outcome (λ o. o .buffer ≡ buffer) (λ a g. refl) (λ r. buffer-for (judged d c segment buffer) d c segment buffer (c .operation) n)
+
+    -- "On a good WRITE the transfer's own blocks of the segment are overwritten and no other"
+    pub good-write-keeps-other-blocks : Beside d c segment (executed d segment command buffer .segment)
+    unfolding performed
+    good-write-keeps-other-blocks =
+        served-outcome (λ o. Beside d c segment (o .segment)) (λ a g. beside-itself d c segment)
+        (λ r. beside-for (judged d c segment buffer) d c segment buffer (c .operation) (overwritten-beside d c segment buffer r))
+
+    -- "received fields are stored as received"; with 000 they are inserted
+    pub good-write-stores : c .operation ≡ Write → isGood (executed d segment command buffer .answer) ≡ true
+        → Ready d c (length segment) (length buffer) × (blocksOf d c (executed d segment command buffer .segment) ≡ received d c buffer)
+    unfolding performed
+    good-write-stores w =
+        served-outcome
+        (λ o. isGood (o .answer) ≡ true → Ready d c (length segment) (length buffer) × (blocksOf d c (o .segment) ≡ received d c buffer))
+        (λ a b g. absurd (true≢false (sym g ∙ b)))
+        (λ r g. (
+          r,
+          ap (blocksOf d c) (stored-for (judged d c segment buffer) d c segment buffer (c .operation) w g) ∙ overwritten-there d c segment buffer r w,
+        ))
+
+    -- "A good READ fills its buffer with the transfer's blocks in order"
+    pub good-read-hands-out : c .operation ≡ Read → isGood (executed d segment command buffer .answer) ≡ true
+        → executed d segment command buffer .buffer ≡ handed d c (blocksOf d c segment)
+    unfolding performed
+    good-read-hands-out w =
+        served-outcome (λ o. isGood (o .answer) ≡ true → o .buffer ≡ handed d c (blocksOf d c segment))
+        (λ a b g. absurd (true≢false (sym g ∙ b)))
+        (λ r g. handed-for (judged d c segment buffer) d c segment buffer (c .operation) w g)
+
+-- "The answer of a READ or VERIFY depends on the description, the command, the lengths and the transfer's blocks, on no other block."
+pub own-blocks-alone : (d : Description) (s s′ command buffer : List ℕ) (c : Command) → decode command ≡ Served c → (c .operation ≡ Write → ⊥)
+    → length s ≡ length s′ → blocksOf d c s ≡ blocksOf d c s′ → Alike (executed d s command buffer) (executed d s′ command buffer)
+unfolding executed performed judged
+own-blocks-alone d s s′ command buffer c served n l e =
+    rw (← l) (by (admitted d (length s) command (length buffer)) (admitted-settled d s command buffer c served))
+  where
+    by : (x : Admitted) → Settled c x → Alike (executedAs x d s buffer) (executedAs x d s′ buffer)
+    by (Refused a) t = (refl, refl)
+    by (Go k) t = rw t (alike-for d c s s′ buffer e (c .operation) n)
+
+-- a READ after a WRITE of the same blocks, both good
+module _ (d : Description) (segment writing buffer reading out : List ℕ) (w k : Command)
+    (writes : decode writing ≡ Served w) (is-write : w .operation ≡ Write) (good-write : isGood (executed d segment writing buffer .answer) ≡ true)
+    (reads : decode reading ≡ Served k) (is-read : k .operation ≡ Read)
+    (good-read : isGood (executed d (executed d segment writing buffer .segment) reading out .answer) ≡ true)
+    (address : k .address ≡ w .address) (long : k .length ≡ w .length) where
+  abbrev now : List ℕ
+  now = executed d segment writing buffer .segment
+
+  stored : Ready d w (length segment) (length buffer) × (blocksOf d w now ≡ received d w buffer)
+  stored = good-write-stores d segment writing buffer w writes is-write good-write
+
+  -- it hands out what was stored
+  pub read-gives-what-was-stored : executed d now reading out .buffer ≡ handed d k (received d w buffer)
+  read-gives-what-was-stored =
+      good-read-hands-out d now reading out k reads is-read good-read ∙ ap (handed d k) (same-blocks d w k now address long ∙ stored .1)
+
+  -- and gives back what was written: the user data where both are 000, the whole blocks where neither is
+  pub read-after-write : whole d k ≡ whole d w → executed d now reading out .buffer ≡ buffer
+  read-after-write same = read-gives-what-was-stored ∙ handed-back d w segment buffer (stored .0) is-write k long same
+
+-- ---- demand 2: a transfer otherwise in order is refused exactly when an interval under check is wrong
+
+-- what goes on was served
+served-when : (c : Command) (d : Description) (b : ℕ) (p q : Bool) (x : Decoded)
+    → cond p (Refused answers.Description) (cond q (Refused answers.Segment) (admitDecoded d x b)) ≡ Go c → x ≡ Served c
+served-when c d b true q x e = let z : _≡_ {A = ℕ} 0 1 = cc in absurd (omega arith)
+served-when c d b false true x e = let z : _≡_ {A = ℕ} 0 1 = cc in absurd (omega arith)
+served-when c d b false false (decoded.Refused a) e = let z : _≡_ {A = ℕ} 0 1 = cc in absurd (omega arith)
+served-when c d b false false (Served k) e = ap Served (by (isGood (refusal d k b)) e)
+  where
+    by : (g : Bool) → cond g (Go k) (Refused (refusal d k b)) ≡ Go c → k ≡ c
+    by true f = cc
+    by false f = let z : _≡_ {A = ℕ} 0 1 = cc in absurd (omega arith)
+
+-- the first tag is one of four bytes
+tag-small : (d : Description) (c : Command) → c .tag < 2 ^ 32 → firstTag d c < 2 ^ 32
+unfolding firstTag
+tag-small d c h = by (eqb (d .kind) 1)
+  where
+    by : (b : Bool) → cond b (c .address % 2 ^ 32) (c .tag) < 2 ^ 32
+    by true = mod-lt (c .address) (lit< tt)
+    by false = h
+
+-- what is judged: the blocks under check, none where nothing is
+pick-none : (b : Bool) (d : Description) (c : Command) (s : List ℕ)
+    → cond b answers.Good (judgeBlocks (rulesOf d c) (c .length) (startOf d c) s) ≡ judgeBlocks (rulesOf d c) (cond b 0 (c .length)) (startOf d c) s
+unfolding judgeBlocks firstOf
+pick-none true d c s = refl
+pick-none false d c s = refl
+
+judged-for : (d : Description) (c : Command) (segment buffer : List ℕ) (o : Operation)
+    → judgedFor o d c segment buffer ≡ judgeBlocks (rulesOf d c) (checkedBlocks o d c) (startOf d c) (underCheck o d c segment buffer)
+unfolding judgedIn judgeBlocks firstOf
+judged-for d c segment buffer Read = pick-none (eqb (d .kind) 0) d c (blocksOf d c segment)
+judged-for d c segment buffer Verify = pick-none (eqb (d .kind) 0) d c (blocksOf d c segment)
+judged-for d c segment buffer Write = by (eqb (c .code) 0)
+  where
+    by : (z : Bool) → cond z answers.Good (judgedIn d c buffer)
+        ≡ judgeBlocks (rulesOf d c) (cond z 0 (cond (eqb (d .kind) 0) 0 (c .length))) (startOf d c) buffer
+    by true = refl
+    by false = pick-none (eqb (d .kind) 0) d c buffer
+
+module _ (d : Description) (segment command buffer : List ℕ) (c : Command)
+    (bytes : Bytes command) (in-order : admitted d (length segment) command (length buffer) ≡ Go c) where
+  abbrev checked : List ℕ
+  checked = underCheck (c .operation) d c segment buffer
+
+  abbrev count : ℕ
+  count = checkedBlocks (c .operation) d c
+
+  small : firstTag d c < 2 ^ 32
+  unfolding admitted
+  small =
+      tag-small d c
+      (served-bounded command c
+      (served-when c d (length buffer) (not (isSegment d)) (not (eqb (length segment) (lengthOf d))) (decode command) in-order) bytes .tag)
+
+  answer-is : executed d segment command buffer .answer ≡ judgeBlocks (rulesOf d c) count (startOf d c) checked
+  unfolding executed performed judged
+  answer-is = rw in-order (answer-for (judged d c segment buffer) d c segment buffer (c .operation) ∙ judged-for d c segment buffer (c .operation))
+
+  -- "a transfer with no wrong interval is good", and no other is
+  pub good-exactly-when-all-right : (executed d segment command buffer .answer ≡ answers.Good)
+      ↔ ((j i : ℕ) → j < count → i < intervalsOf d → verdictAt d c checked j i ≡ answers.Good)
+  good-exactly-when-all-right = rw answer-is (blocks-good d c checked small count)
+
+  -- 8, 9 or 10 with the first wrong interval's address and place: all before it are right
+  pub refused-names-the-first-wrong : isGood (executed d segment command buffer .answer) ≡ false
+      → FirstWrongInterval d c count checked (executed d segment command buffer .answer)
+  refused-names-the-first-wrong = rw answer-is (blocks-wrong d c checked small count)
+
+  -- "in one interval guard, application, reference": of each, what its verdict says
+  pub guard-application-reference : (j i : ℕ)
+      → let r = rulesOf d c in
+      let s = intervalAt d checked j i in
+      let f = fieldOf (sizeOf d) s in
+      Verdict (guardWrong r (dataOf (sizeOf d) s) f) (applicationWrong r f) (referenceWrong r (placeAt d c j i) f)
+      (c .address + j) (j * intervalsOf d + i) (judgeInterval r (placeAt d c j i) s)
+  unfolding rulesOf
+  guard-application-reference j i = interval-verdict (rulesOf d c) (placeAt d c j i) (intervalAt d checked j i)

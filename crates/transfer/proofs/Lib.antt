@@ -1,0 +1,7 @@
+pub mod Shapes
+pub mod Steps
+pub mod Outcomes
+pub mod Checked
+pub mod Stored
+pub mod Wrong
+pub mod Demands

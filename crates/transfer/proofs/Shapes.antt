@@ -1,0 +1,178 @@
+-- The sizes of a transfer: all that is multiplied is multiplied here.
+-- Assumes nothing.
+use mathlib.Core.Path.{_≡_, refl, sym, ap, subst, _∙_}
+use mathlib.Core.Bool.{Bool, true, false, not, _||_, cond}
+use mathlib.Core.List.{List}
+use Prim.Native.Nat.{ℕ, _+_, _*_, _-_, _^_, _≤_}
+use native.Mathlib.Nat.{mul-assoc, mul-le-mul, mul-le-mul-right, add-mul}
+use native.Mathlib.Omega.{arith}
+use borrow.Author.Tests.{eq-eqb, ne-eqb, eqb-true, eqb-false}
+use lib.Dec.{T, eqb, lit≤}
+use lib.ListN.{length}
+use Rattle.words.specs.Parts.{put}
+use Rattle.answer.specs.declared.Answer.the-variants as answers
+use Rattle.segment.specs.declared.Description.{Description}
+use Rattle.segment.specs.Segment.{Segment, intervalsOf, sizeOf, storedOf, lengthOf}
+use Rattle.segment.proofs.Laws.{sizes, stored-intervals, stored-plain}
+use Rattle.command.specs.declared.Command.{Command}
+use Rattle.judge.specs.Judge.{Run, judgeBlocks}
+use Rattle.checks.specs.Checks.{rulesOf, startOf}
+use Rattle.checks.specs.Inserted.{marksOf}
+use Rattle.blocks.specs.declared.Marks.{Marks}
+use Rattle.blocks.specs.Blocks.{stripped, storedBlocks}
+use Rattle.admission.specs.Admission.{movedOf}
+use Rattle.admission.specs.Ready.{Ready}
+use Rattle.admission.proofs.Rules.{moved-plain, moved-whole}
+use Rattle.transfer.specs.Transfer.{whole, offsetOf, spanOf, judgedIn, handed, received, Shaped, Placed, Fitted}
+
+-- ---- whole blocks or user data
+pub whole-plain : (d : Description) (c : Command) → d .kind ≡ 0 → whole d c ≡ true
+unfolding whole
+whole-plain d c k = rw (eq-eqb (d .kind) 0 k)
+
+pub whole-code : (d : Description) (c : Command) → (d .kind ≡ 0 → ⊥) → (c .code ≡ 0 → ⊥) → whole d c ≡ true
+unfolding whole
+whole-code d c k n = rw (ne-eqb (d .kind) 0 k, ne-eqb (c .code) 0 n)
+
+pub whole-not : (d : Description) (c : Command) → (d .kind ≡ 0 → ⊥) → c .code ≡ 0 → whole d c ≡ false
+unfolding whole
+whole-not d c k z = rw (ne-eqb (d .kind) 0 k, eq-eqb (c .code) 0 z)
+
+-- what a test of `whole` tells
+pub record Parted (d : Description) (c : Command) : Type 0 where
+  pub fields : d .kind ≡ 0 → ⊥
+  pub zero : c .code ≡ 0
+
+-- ---- a transfer's blocks and its buffer
+module _ (d : Description) (c : Command) (s : Segment d) where
+  pub span-intervals : (d .kind ≡ 0 → ⊥) → c .length * (intervalsOf d * (sizeOf d + 8)) ≡ spanOf d c
+  unfolding spanOf
+  span-intervals k = ap (λ (x : ℕ). c .length * x) (sym (stored-intervals d s k))
+
+  pub span-flat : (d .kind ≡ 0 → ⊥) → c .length * intervalsOf d * (sizeOf d + 8) ≡ spanOf d c
+  span-flat k = mul-assoc (c .length) (intervalsOf d) (sizeOf d + 8) ∙ span-intervals k
+
+  pub moved-intervals : c .code ≡ 0 → c .length * (intervalsOf d * sizeOf d) ≡ movedOf d c
+  moved-intervals z = ap (λ (x : ℕ). c .length * x) (sizes d s .whole) ∙ sym (moved-plain d c z)
+
+  pub moved-flat : c .code ≡ 0 → c .length * intervalsOf d * sizeOf d ≡ movedOf d c
+  moved-flat z = mul-assoc (c .length) (intervalsOf d) (sizeOf d) ∙ moved-intervals z
+
+  pub moved-span : (c .code ≡ 0 → ⊥) → movedOf d c ≡ spanOf d c
+  unfolding spanOf
+  moved-span n = moved-whole d c n
+
+  pub moved-plain-span : d .kind ≡ 0 → c .code ≡ 0 → movedOf d c ≡ spanOf d c
+  unfolding spanOf
+  moved-plain-span k z = moved-plain d c z ∙ ap (λ (x : ℕ). c .length * x) (sym (stored-plain d k))
+
+  pub intervals-few : c .length ≤ 65536 → c .length * intervalsOf d ≤ 524288
+  intervals-few h = mul-le-mul {n₂ = 65536} {m₂ = 8} h (sizes d s .intervals-most)
+
+  pub span-few : c .length ≤ 65536 → c .length * storedOf d ≤ 65536 * 4160
+  span-few h = mul-le-mul h (sizes d s .stored-most)
+
+  pub offset-few : c .address ≤ d .first + d .count → (c .address - d .first) * storedOf d ≤ 65536 * 4160
+  offset-few h = mul-le-mul {n₂ = 65536} {m₂ = 4160} (omega (arith, s .count)) (sizes d s .stored-most)
+
+-- ---- judging
+pub judged-plain : (d : Description) (c : Command) (s : List ℕ) → d .kind ≡ 0 → judgedIn d c s ≡ answers.Good
+unfolding judgedIn
+judged-plain d c s k = rw (eq-eqb (d .kind) 0 k)
+
+pub judged-fields : (d : Description) (c : Command) (s : List ℕ) → (d .kind ≡ 0 → ⊥) → judgedIn d c s ≡ judgeBlocks (rulesOf d c) (c .length) (startOf d c) s
+unfolding judgedIn
+judged-fields d c s k = rw (ne-eqb (d .kind) 0 k)
+
+pub run : (d : Description) (c : Command) (s : List ℕ) → Shaped d c (length s) → (d .kind ≡ 0 → ⊥) → Run (rulesOf d c) (c .length) (startOf d c) s
+unfolding rulesOf startOf
+run d c s h k =
+    record {
+      whole = span-intervals d c (h .described) k ∙ sym (h .long);
+      addresses = h .end;
+      intervals = omega (arith, intervals-few d c (h .described) (h .few));
+      few = sizes d (h .described) .intervals-most;
+      size = sizes d (h .described) .size-most;
+    }
+
+-- ---- the transfer's place in the segment
+pub span-within : (d : Description) (c : Command) (s b : ℕ) → Ready d c s b → offsetOf d c + spanOf d c ≤ s
+unfolding offsetOf spanOf lengthOf
+span-within d c s b r =
+    rw (r .whole, ← add-mul (c .address - d .first) (c .length) (storedOf d))
+    (mul-le-mul-right (storedOf d) (let h : c .address - d .first + c .length ≤ d .count = omega (arith, r .from, r .to) in h))
+
+-- ---- what the test of `whole` tells
+never : {A : Type 0} → false ≡ true → A
+never e = absurd (subst (λ (b : Bool). T (not b)) e tt)
+
+module _ (d : Description) (c : Command) where
+  pub moved-when-whole : Segment d → (d .kind ≡ 0 → c .code ≡ 0) → whole d c ≡ true → movedOf d c ≡ spanOf d c
+  unfolding whole
+  moved-when-whole s p e = by (eqb (d .kind) 0) refl (eqb (c .code) 0) refl e
+    where
+      by : (k : Bool) → eqb (d .kind) 0 ≡ k → (z : Bool) → eqb (c .code) 0 ≡ z → (k || not z) ≡ true → movedOf d c ≡ spanOf d c
+      by true k true z e = moved-plain-span d c s (eqb-true (d .kind) 0 k) (eqb-true (c .code) 0 z)
+      by true k false z e = absurd (eqb-false (c .code) 0 z (p (eqb-true (d .kind) 0 k)))
+      by false k true z e = never e
+      by false k false z e = moved-span d c s (eqb-false (c .code) 0 z)
+
+  pub parted : whole d c ≡ false → Parted d c
+  unfolding whole
+  parted e = by (eqb (d .kind) 0) refl (eqb (c .code) 0) refl e
+    where
+      by : (k : Bool) → eqb (d .kind) 0 ≡ k → (z : Bool) → eqb (c .code) 0 ≡ z → (k || not z) ≡ false → Parted d c
+      by true k z w e = never (sym e)
+      by false k true z e = record { fields = eqb-false (d .kind) 0 k; zero = eqb-true (c .code) 0 z }
+      by false k false z e = never (sym e)
+
+  pub handed-whole : (s : List ℕ) → whole d c ≡ true → handed d c s ≡ s
+  unfolding handed
+  handed-whole s e = rw e
+
+  pub handed-parted : (s new : List ℕ) (size n : ℕ) → whole d c ≡ false → size ≡ sizeOf d → n ≡ intervalsOf d → new ≡ stripped size (c .length * n) s → new ≡ handed d c s
+  unfolding handed
+  handed-parted s new size n e a b m = m ∙ rw (e, a, b)
+
+  pub received-whole : (s : List ℕ) → whole d c ≡ true → received d c s ≡ s
+  unfolding received
+  received-whole s e = rw e
+
+  pub received-parted : (s : List ℕ) (size n : ℕ) (m : Marks) → whole d c ≡ false → size ≡ sizeOf d → n ≡ intervalsOf d → m ≡ marksOf d c → storedBlocks size n (c .length) m s ≡ received d c s
+  unfolding received
+  received-parted s size n m e a b f = rw (e, a, b, f)
+
+  pub stored-whole : (at : ℕ) (s b new : List ℕ) → whole d c ≡ true → new ≡ put at b s → new ≡ put at (received d c b) s
+  stored-whole at s b new e n = n ∙ ap (λ (x : List ℕ). put at x s) (sym (received-whole b e))
+
+  pub stored-parted : (at size n : ℕ) (m : Marks) (s b new : List ℕ) → whole d c ≡ false → size ≡ sizeOf d → n ≡ intervalsOf d → m ≡ marksOf d c
+      → new ≡ put at (storedBlocks size n (c .length) m b) s → new ≡ put at (received d c b) s
+  stored-parted at size n m s b new e z i f w = w ∙ ap (λ (x : List ℕ). put at x s) (received-parted b size n m e z i f)
+
+-- ---- the parts that strip, store and insert are handed
+module _ (d : Description) (c : Command) (size n : ℕ) (z : size ≡ sizeOf d) (i : n ≡ intervalsOf d) where
+  pub strip-fits : (s b : ℕ) → Shaped d c s → Fitted d c b → Parted d c → (c .length * n * (size + 8) ≡ s) × (c .length * n * size ≡ b)
+  strip-fits s b h f p =
+      (rw (z, i) (span-flat d c (h .described) (p .fields) ∙ sym (h .long)), rw (z, i) (moved-flat d c (h .described) (p .zero) ∙ sym (f .room)))
+
+  pub insert-fits : (at s b : ℕ) → Placed d c at s → Fitted d c b → Parted d c
+      → (c .length * (n * size) ≡ b) × (at + c .length * (n * (size + 8)) ≤ s) × ((size ≤ 4096) × (n ≤ 8))
+  insert-fits at s b h f p = (
+    rw (z, i) (moved-intervals d c (h .described) (p .zero) ∙ sym (f .room)),
+    rw (z, i, span-intervals d c (h .described) (p .fields)) (h .fits),
+    (rw z (sizes d (h .described) .size-most), rw i (sizes d (h .described) .intervals-most)),
+  )
+
+pub store-fits : (d : Description) (c : Command) (stored at s b : ℕ) → stored ≡ storedOf d → Placed d c at s → Fitted d c b → whole d c ≡ true
+    → (c .length * stored ≡ b) × (at + c .length * stored ≤ s)
+unfolding spanOf
+store-fits d c stored at s b e h f w =
+    (rw e (sym (moved-when-whole d c (h .described) (f .plain) w) ∙ sym (f .room)), rw e (h .fits))
+
+pub marks-step : (d : Description) (c : Command) (m : Marks) → m ≡ marksOf d c → m .step ≤ 1
+unfolding marksOf
+marks-step d c m e = rw e (by (eqb (d .kind) 3))
+  where
+    by : (b : Bool) → cond b 0 1 ≤ 1
+    by true = lit≤ tt
+    by false = lit≤ tt

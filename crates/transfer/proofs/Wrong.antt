@@ -1,0 +1,124 @@
+-- "then intervals in order, and in one interval guard, application, reference": which interval the answer names.
+-- Assumes nothing.
+use mathlib.Core.Path.{_≡_, refl, sym, ap, _∙_}
+use mathlib.Core.Logic.{_↔_}
+use mathlib.Core.Bool.{Bool, true, false, cond, true≢false}
+use mathlib.Core.List.{List}
+use Prim.Native.Nat.{ℕ, _+_, _*_, _%_, _^_, _<_}
+use native.Mathlib.Nat.{mod-lt, mod-add-mod, add-assoc, zero-add}
+use lib.Dec.{lit<, lit≤}
+use Rattle.answer.specs.Answer.{isGood}
+use Rattle.answer.specs.declared.Answer.{Answer}
+use Rattle.answer.specs.declared.Answer.the-variants as answers
+use Rattle.segment.specs.declared.Description.{Description}
+use Rattle.segment.specs.Segment.{intervalsOf, sizeOf}
+use Rattle.command.specs.declared.Command.{Command}
+use Rattle.judge.specs.declared.Rules.{Rules}
+use Rattle.judge.specs.declared.Place.{Place}
+use Rattle.judge.specs.FirstOf.{firstOf}
+use Rattle.judge.specs.Judge.{dataOf, fieldOf, guardWrong, applicationWrong, referenceWrong, judgePieces, judgeInterval, judgeIntervals, judgeBlock, judgeBlocks, nextInterval, nextBlock}
+use Rattle.judge.proofs.FirstLaws.{after, pieceAt, first-good, first-found, FirstWrong, not-both}
+use Rattle.judge.proofs.PieceLaws.{Verdict, pieces-verdict}
+use Rattle.judge.proofs.PlaceLaws.{place-after-interval, place-after-block}
+use Rattle.checks.specs.Checks.{rulesOf, startOf, firstTag}
+use Rattle.transfer.proofs.Checked.{blockAt, intervalAt, placeAt, skipped, verdictAt, Names, FirstWrongInterval}
+
+-- ---- one interval
+abbrev inTurn : Place → Bool → Bool → Bool → Answer
+inTurn p g a f =
+    cond g (answers.Guard (p .address) (p .interval))
+    (cond a (answers.Application (p .address) (p .interval)) (cond f (answers.Reference (p .address) (p .interval)) answers.Good))
+
+names : (p : Place) (g a f : Bool) → isGood (inTurn p g a f) ≡ false → Names p (inTurn p g a f)
+names p true a f w = record { least = lit≤ tt; most = lit≤ tt; address = refl; place = refl }
+names p false true f w = record { least = lit≤ tt; most = lit≤ tt; address = refl; place = refl }
+names p false false true w = record { least = lit≤ tt; most = lit≤ tt; address = refl; place = refl }
+names p false false false w = absurd (true≢false w)
+
+interval-names : (r : Rules) (p : Place) (s : List ℕ) → isGood (judgeInterval r p s) ≡ false → Names p (judgeInterval r p s)
+unfolding judgeInterval judgePieces
+interval-names r p s =
+    let f = fieldOf (r .size) s in
+    names p (guardWrong r (dataOf (r .size) s) f) (applicationWrong r f) (referenceWrong r p f)
+
+-- each answer is given exactly when its field is the first wrong one
+pub interval-verdict : (r : Rules) (p : Place) (s : List ℕ)
+    → Verdict (guardWrong r (dataOf (r .size) s) (fieldOf (r .size) s)) (applicationWrong r (fieldOf (r .size) s)) (referenceWrong r p (fieldOf (r .size) s))
+    (p .address) (p .interval) (judgeInterval r p s)
+unfolding judgeInterval
+interval-verdict r p s = pieces-verdict r p (dataOf (r .size) s) (fieldOf (r .size) s)
+
+-- ---- all intervals
+module _ (d : Description) (c : Command) (s : List ℕ) (small : firstTag d c < 2 ^ 32) where
+  -- where judging stands at a block
+  abbrev reached : ℕ → Place
+  reached j = after (nextBlock (intervalsOf d)) j (startOf d c)
+
+  place-is : (j i : ℕ) → after nextInterval i (reached j) ≡ placeAt d c j i
+  unfolding startOf
+  place-is j i =
+      let n = intervalsOf d in
+      let p : Place = record { address = c .address + j; interval = 0 + j * n; tag = (firstTag d c + j * n) % 2 ^ 32 } in
+      let tags : ((firstTag d c + j * n) % 2 ^ 32 + i) % 2 ^ 32 ≡ (firstTag d c + (j * n + i)) % 2 ^ 32 = mod-add-mod (firstTag d c + j * n) (2 ^ 32) i ∙ ap (λ (x : ℕ). x % 2 ^ 32) (add-assoc (firstTag d c) (j * n) i) in
+      ap (after nextInterval i) (place-after-block n j (startOf d c) small)
+      ∙ place-after-interval i p (mod-lt (firstTag d c + j * n) (lit< tt)) ∙ rw (zero-add, tags) refl
+
+  piece-is : (j i : ℕ) → pieceAt (judgeInterval (rulesOf d c)) nextInterval (sizeOf d + 8) (reached j) (blockAt d s j) i
+      ≡ judgeInterval (rulesOf d c) (placeAt d c j i) (intervalAt d s j i)
+  piece-is j i = ap (λ (p : Place). judgeInterval (rulesOf d c) p (intervalAt d s j i)) (place-is j i)
+
+  abbrev inBlock : ℕ → Answer
+  inBlock j = firstOf (judgeInterval (rulesOf d c)) nextInterval (sizeOf d + 8) (intervalsOf d) (reached j) (blockAt d s j)
+
+  block-is : (j : ℕ) → judgeBlock (rulesOf d c) (reached j) (blockAt d s j) ≡ cond (skipped d c s j) answers.Good (inBlock j)
+  unfolding judgeBlock judgeIntervals rulesOf
+  block-is j = refl
+
+  block-good : (j : ℕ) → (judgeBlock (rulesOf d c) (reached j) (blockAt d s j) ≡ answers.Good) ↔ ((i : ℕ) → i < intervalsOf d → verdictAt d c s j i ≡ answers.Good)
+  block-good j = rw block-is (by (skipped d c s j))
+    where
+      all : (inBlock j ≡ answers.Good) ↔ ((i : ℕ) → i < intervalsOf d → pieceAt (judgeInterval (rulesOf d c)) nextInterval (sizeOf d + 8) (reached j) (blockAt d s j) i ≡ answers.Good)
+      all = first-good (judgeInterval (rulesOf d c)) nextInterval (sizeOf d + 8) (intervalsOf d) (reached j) (blockAt d s j)
+
+      by : (b : Bool) → (cond b answers.Good (inBlock j) ≡ answers.Good)
+          ↔ ((i : ℕ) → i < intervalsOf d → cond b answers.Good (judgeInterval (rulesOf d c) (placeAt d c j i) (intervalAt d s j i)) ≡ answers.Good)
+      by true = (λ e i h. refl, λ f. refl)
+      by false = (λ e i h. sym (piece-is j i) ∙ all .0 e i h, λ f. all .1 (λ i h. piece-is j i ∙ f i h))
+
+  abbrev inBlocks : ℕ → Answer
+  inBlocks k = firstOf (judgeBlock (rulesOf d c)) (nextBlock (intervalsOf d)) (intervalsOf d * (sizeOf d + 8)) k (startOf d c) s
+
+  blocks-are : (k : ℕ) → judgeBlocks (rulesOf d c) k (startOf d c) s ≡ inBlocks k
+  unfolding judgeBlocks rulesOf
+  blocks-are k = refl
+
+  -- k blocks are good exactly when each of their intervals is right
+  pub blocks-good : (k : ℕ) → (judgeBlocks (rulesOf d c) k (startOf d c) s ≡ answers.Good) ↔ ((j i : ℕ) → j < k → i < intervalsOf d → verdictAt d c s j i ≡ answers.Good)
+  blocks-good k =
+      let all = first-good (judgeBlock (rulesOf d c)) (nextBlock (intervalsOf d)) (intervalsOf d * (sizeOf d + 8)) k (startOf d c) s in
+      rw blocks-are (λ e j i h. block-good j .0 (all .0 e j h) i, λ f. all .1 (λ j h. block-good j .1 (λ i. f j i h)))
+
+  -- and if they are not, the answer is that of the first wrong interval
+  pub blocks-wrong : (k : ℕ) → isGood (judgeBlocks (rulesOf d c) k (startOf d c) s) ≡ false → FirstWrongInterval d c k s (judgeBlocks (rulesOf d c) k (startOf d c) s)
+  blocks-wrong k = rw blocks-are (λ w. found (inBlocks k) (first-found (judgeBlock (rulesOf d c)) (nextBlock (intervalsOf d)) (intervalsOf d * (sizeOf d + 8)) k (startOf d c) s w))
+    where
+      found : (a : Answer) → FirstWrong (judgeBlock (rulesOf d c)) (nextBlock (intervalsOf d)) (intervalsOf d * (sizeOf d + 8)) k (startOf d c) s a → FirstWrongInterval d c k s a
+      found a f = by (skipped d c s (f .at)) refl (sym (block-is (f .at)) ∙ f .here)
+        where
+          by : (b : Bool) → skipped d c s (f .at) ≡ b → cond b answers.Good (inBlock (f .at)) ≡ a → FirstWrongInterval d c k s a
+          by true e h = absurd (not-both a (sym h) (f .wrong))
+          by false e h =
+              let g = first-found (judgeInterval (rulesOf d c)) nextInterval (sizeOf d + 8) (intervalsOf d) (reached (f .at)) (blockAt d s (f .at)) (ap isGood h ∙ f .wrong) in
+              let here : judgeInterval (rulesOf d c) (placeAt d c (f .at) (g .at)) (intervalAt d s (f .at) (g .at)) ≡ a = sym (piece-is (f .at) (g .at)) ∙ g .here ∙ h in
+              record {
+                block = f .at;
+                interval = g .at;
+                block-within = f .within;
+                interval-within = g .within;
+                earlier-blocks = λ j i l m. block-good j .0 (f .earlier j l) i m;
+                earlier-intervals = λ i l. rw e (sym (piece-is (f .at) i) ∙ g .earlier i l);
+                checked = e;
+                here = here;
+                wrong = f .wrong;
+                names = rw here at (interval-names (rulesOf d c) (placeAt d c (f .at) (g .at)) (intervalAt d s (f .at) (g .at)) (ap isGood here ∙ f .wrong));
+              }
