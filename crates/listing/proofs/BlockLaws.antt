@@ -1,20 +1,19 @@
 -- The lines of blocks, one turn of a loop after another; how many there are, and whose bytes they depend on.
 -- Assumes nothing.
-use mathlib.Core.Path.{_≡_, refl, sym, ap, ap₂, _∙_}
+use mathlib.Core.Path.{_≡_, refl, ap, _∙_}
 use mathlib.Core.Bool.{Bool}
-use mathlib.Core.List.{List, [], _∷_, _++_, append-assoc, append-nil}
-use Prim.Native.Nat.{ℕ, zero, suc, _+_, _-_, _*_, _^_, _<_, _≤_}
-use native.Mathlib.Nat.{zero-add, one-mul, suc-mul}
+use mathlib.Core.List.{List, [], _∷_, _++_}
+use Prim.Native.Nat.{ℕ, zero, suc, _+_, _-_, _*_, _<_, _≤_}
+use native.Mathlib.Nat.{suc-mul}
 use native.Mathlib.Omega.{arith}
 use lib.ListN.{length, take, drop, length-append}
-use Rattle.words.proofs.Runs.{peel-within, peel-rest}
 use Rattle.judge.specs.declared.Rules.{Rules}
 use Rattle.judge.specs.declared.Place.{Place}
-use Rattle.judge.specs.Judge.{storedGuard, storedApplication, storedReference, fieldOf, anyEscapes, judgeInterval, nextInterval, nextBlock, Run}
+use Rattle.judge.specs.Judge.{nextInterval, nextBlock}
 use Rattle.judge.proofs.FirstLaws.{turn-of, own-of}
 use Rattle.judge.proofs.BlockLaws.{own-field, own-interval, own-any}
 use Rattle.listing.specs.declared.Line.{Line}
-use Rattle.listing.specs.Lines.{worded, stateOf, lineOf, intervalLines, linesIn, blockLines}
+use Rattle.listing.specs.Lines.{stateOf, lineOf, intervalLines, linesIn, blockLines}
 
 -- ---- the lines of the intervals of a block
 module _ (r : Rules) (k : Bool) where

@@ -3,11 +3,11 @@
 use mathlib.Core.Path.{_≡_, refl, sym, ap, _∙_}
 use mathlib.Core.Logic.{_↔_}
 use mathlib.Core.Bool.{Bool, true, false, _&&_, cond, true≢false}
-use mathlib.Core.List.{List, [], _∷_, _++_}
+use mathlib.Core.List.{List, _++_}
 use Prim.Native.Nat.{ℕ, zero, suc, _+_, _*_, _≤_}
 use native.Mathlib.Omega.{arith}
 use lib.ListN.{length, drop, length-append, length-drop}
-use Rattle.answer.specs.Answer.{numberOf, isGood, orElse}
+use Rattle.answer.specs.Answer.{numberOf, isGood}
 use Rattle.answer.specs.declared.Answer.{Answer}
 use Rattle.answer.specs.declared.Answer.the-variants as answers
 use Rattle.segment.specs.declared.Description.{Description}
@@ -18,18 +18,14 @@ use Rattle.judge.specs.FirstOf.{firstOf}
 use Rattle.judge.specs.Judge.{dataOf, fieldOf, anyEscapes, guardWrong, applicationWrong, referenceWrong, judgePieces, judgeInterval, judgeIntervals, judgeBlock, judgeBlocks, nextInterval, nextBlock}
 use Rattle.judge.proofs.FirstLaws.{orElse-good}
 use Rattle.checks.specs.Checks.{columnsOf, applicationKnown, rulesOf, startOf}
-use Rattle.text.specs.Text.{decimal}
-use Rattle.text.specs.Laid.{laid}
 use Rattle.text.proofs.Writing.{laid-length}
 use Rattle.text.proofs.Digits.{decimal-most}
-use Rattle.listing.specs.declared.Line.{Line}
-use Rattle.listing.specs.declared.State.{State}
 use Rattle.listing.specs.Lines.{worded, stateOf, lineOf, intervalLines, linesIn, blockLines, faulty, skips, countOf, linesText, headerText, intervalsText, faultsText, skippedText, numbersText, totalText}
 use Rattle.listing.specs.Record.{recordAnswer, describedBy, segmentIn}
 use Rattle.listing.specs.Listing.{readAll, linesOf, listedText, refusedText, listing, Listed}
 use Rattle.listing.proofs.SheetLaws.{count-append, lines-most}
 use Rattle.listing.proofs.BlockLaws.{blocks-length}
-use Rattle.listing.proofs.RecordLaws.{Whole, record-whole}
+use Rattle.listing.proofs.RecordLaws.{record-whole}
 use Rattle.listing.proofs.ListingLaws.{lines-none, lines-are, lines-length}
 
 -- ---- the last line's numbers are those of the lines that stand above it

@@ -1,9 +1,9 @@
 -- The laws of a line: its state and fields from the bytes of its interval, and its text from the texts that it is printed as.
 -- Assumes nothing.
-use mathlib.Core.Path.{_≡_, refl, sym, ap, ap₂, _∙_}
+use mathlib.Core.Path.{_≡_, ap, _∙_}
 use mathlib.Core.Bool.{Bool, true, false}
-use mathlib.Core.List.{List, [], _∷_, _++_, append-assoc, append-nil}
-use Prim.Native.Nat.{ℕ, zero, suc, _+_, _-_, _*_, _<_, _≤_}
+use mathlib.Core.List.{List, [], _∷_, _++_, append-assoc}
+use Prim.Native.Nat.{ℕ, _+_, _-_, _≤_}
 use native.Mathlib.Omega.{arith}
 use lib.ListN.{length, take, drop, length-append}
 use Rattle.words.specs.BigEndian.{numberAt}
@@ -18,7 +18,7 @@ use Rattle.text.proofs.Digits.{decimal-most, hexadecimal-length}
 use Rattle.listing.specs.declared.Line.{Line}
 use Rattle.listing.specs.declared.State.{State}
 use Rattle.listing.specs.declared.State.the-variants.{Skipped, Guard, Ref, Ok}
-use Rattle.listing.specs.Lines.{worded, stateOf, lineOf, stateText, lineText, linesText}
+use Rattle.listing.specs.Lines.{worded, stateOf, lineOf, stateText, lineText}
 
 -- ---- the state
 pub state-skipped : (r : Rules) (k : Bool) (p : Place) (s : List ℕ) → k ≡ true → Skipped ≡ stateOf r k p s

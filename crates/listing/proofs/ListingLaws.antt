@@ -1,14 +1,14 @@
 -- The laws of a listing: its last line, its refusal, the lines of a segment, and all of it one after another.
 -- Assumes nothing.
 use mathlib.Core.Path.{_≡_, refl, sym, ap, ap₂, _∙_}
-use mathlib.Core.Bool.{Bool, true, false, not, cond}
-use mathlib.Core.List.{List, [], _∷_, _++_, append-assoc}
-use Prim.Native.Nat.{ℕ, _+_, _-_, _*_, _^_, _<_, _≤_, zero-le}
+use mathlib.Core.Bool.{Bool, true, false, not}
+use mathlib.Core.List.{List, [], _∷_, _++_}
+use Prim.Native.Nat.{ℕ, _+_, _-_, _*_, _^_, _≤_, zero-le}
 use native.Mathlib.Nat.{zero-add, mul-assoc, mul-le-mul, le-refl}
 use native.Mathlib.Omega.{arith}
 use borrow.Author.Tests.{eq-eqb, ne-eqb, eqb-true, eqb-false, not-true, not-false}
 use lib.Dec.{eqb}
-use lib.ListN.{length, take, drop, length-drop, length-append}
+use lib.ListN.{length, take, drop, length-drop}
 use lib.Seq.{take-all}
 use Rattle.answer.specs.Answer.{numberOf, isGood}
 use Rattle.answer.specs.declared.Answer.{Answer}
@@ -23,9 +23,8 @@ use Rattle.checks.specs.Checks.{rulesOf, startOf}
 use Rattle.text.specs.Text.{decimal}
 use Rattle.text.specs.Laid.{laid, Written}
 use Rattle.text.proofs.Writing.{written-then, written-as}
-use Rattle.listing.specs.declared.Line.{Line}
 use Rattle.listing.specs.declared.Sheet.{Sheet}
-use Rattle.listing.specs.Lines.{blockLines, linesText, headerText, intervalsText, faultsText, skippedText, numbersText, totalText, Printed, Room}
+use Rattle.listing.specs.Lines.{blockLines, headerText, intervalsText, faultsText, skippedText, numbersText, totalText, Printed, Room}
 use Rattle.listing.specs.Record.{recordAnswer, describedBy, segmentIn}
 use Rattle.listing.specs.Listing.{readAll, linesOf, listedText, refusedText, listing, Listed}
 use Rattle.listing.proofs.SheetLaws.{sheet, printed-none, printed-as, room-next, room-less}

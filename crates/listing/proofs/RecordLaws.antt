@@ -3,14 +3,12 @@
 use mathlib.Core.Path.{_≡_, refl, sym, ap, _∙_}
 use mathlib.Core.Bool.{Bool, true, false, not, _||_, cond, true≢false}
 use mathlib.Core.List.{List}
-use Prim.Native.Nat.{ℕ, _+_, _-_, _<_, _≤_}
-use native.Mathlib.Omega.{arith}
+use Prim.Native.Nat.{ℕ, _+_, _-_}
 use borrow.Author.Tests.{le-ltb, eq-eqb, ne-eqb, ltb-false, eqb-true, not-false}
-use lib.Dec.{T, eqb, ltb}
-use lib.ListN.{length, getD, drop, length-drop}
+use lib.Dec.{eqb, ltb}
+use lib.ListN.{length, getD, length-drop}
 use Rattle.words.specs.BigEndian.{numberAt}
 use Rattle.answer.specs.Answer.{isGood}
-use Rattle.answer.specs.declared.Answer.{Answer}
 use Rattle.answer.specs.declared.Answer.the-variants as answers
 use Rattle.segment.specs.declared.Description.{Description}
 use Rattle.segment.specs.Segment.{isSegment, Segment, lengthOf}

@@ -6,73 +6,50 @@ use Rattle.listing.proofs.Demands.{listed-fits}
 use borrow.Author.Needs.{needs}
 use Rattle.list.proofs.main.Statement.{statement}
 use Rattle.list.proofs.main.Tie as tie
-use Rattle.list.proofs.main.Reads as reads
-use Rattle.list.proofs.main.Lts as lts
-use Rattle.io.proofs.read_full.Reads as read-full-reads
-use Rattle.io.proofs.write_all.Reads as write-all-reads
-use Rattle.list.proofs.record.Reads as record-reads
-use Rattle.list.proofs.sheet.Reads as sheet-reads
-use Rattle.listing.proofs.list.Reads as list-reads
-use Rattle.os.proofs.fail.Reads as fail-reads
 
--- src/main.rt:22:21
 record-requires : tie.Need-record-requires
 record-requires c κs = search needs
 
--- src/main.rt:23:43
 slice-aggregate-read-full : tie.Need-slice-aggregate-read-full
 slice-aggregate-read-full c = search needs
 
--- src/main.rt:23:9
 read-full-requires : tie.Need-read-full-requires
 read-full-requires c κs = search needs
 
--- src/main.rt:24:19
 sheet-requires : tie.Need-sheet-requires
 sheet-requires c κs = search needs
 
--- src/main.rt:25:27
 array-share-prefix-input : tie.Need-array-share-prefix-input
 array-share-prefix-input c = search needs
 
--- src/main.rt:25:27
 slice-aggregate-list : tie.Need-slice-aggregate-list
 slice-aggregate-list c = search needs
 
--- src/main.rt:25:42
 slice-aggregate-list-2 : tie.Need-slice-aggregate-list-2
 slice-aggregate-list-2 c = search needs
 
--- src/main.rt:25:9
 list-requires : tie.Need-list-requires
 list-requires c κs = search needs
 
--- src/main.rt:26:38
 array-share-prefix-out : tie.Need-array-share-prefix-out
 array-share-prefix-out c = listed-fits (c .before .list .ensures) (c .before .before .before .before .sheet .ensures)
 
--- src/main.rt:26:38
 slice-aggregate-write-all : tie.Need-slice-aggregate-write-all
 slice-aggregate-write-all c =
     sym (length-take-le _ _ (listed-fits (c .before .before .list .ensures) (c .before .before .before .before .before .sheet .ensures)))
 
--- src/main.rt:26:9
 write-all-requires : tie.Need-write-all-requires
 write-all-requires c κs = search needs
 
--- src/main.rt:27:18
 slice-aggregate-fail : tie.Need-slice-aggregate-fail
 slice-aggregate-fail c = search needs
 
--- src/main.rt:27:9
 fail-requires : tie.Need-fail-requires
 fail-requires c κs = search needs
 
--- src/main.rt:21:1
 returns : tie.Need-returns
 returns c = search needs
 
--- src/main.rt:21:1
 returns-2 : tie.Need-returns-2
 returns-2 c = search needs
 

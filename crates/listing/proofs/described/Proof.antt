@@ -5,48 +5,34 @@ use Rattle.listing.proofs.RecordLaws.{described-made}
 use borrow.Author.Needs.{needs}
 use Rattle.listing.proofs.described.Statement.{statement}
 use Rattle.listing.proofs.described.Tie as tie
-use Rattle.listing.proofs.described.Reads as reads
-use Rattle.listing.proofs.described.Lts as lts
-use Rattle.words.proofs.read2.Reads as read2-reads
-use Rattle.words.proofs.read8.Reads as read8-reads
 
--- src/lib.rt:261:15
 shared-slice-read-t3 : tie.Need-shared-slice-read-t3
 shared-slice-read-t3 c = search needs
 
--- src/lib.rt:261:15
 cast-t4 : tie.Need-cast-t4
 cast-t4 c = omega (arith, c .shared-slice-known2 .given 5)
 
--- src/lib.rt:262:16
 read2-requires : tie.Need-read2-requires
 read2-requires c κs = search needs
 
--- src/lib.rt:262:16
 cast-t6 : tie.Need-cast-t6
 cast-t6 c = search needs
 
--- src/lib.rt:263:19
 shared-slice-read-t8 : tie.Need-shared-slice-read-t8
 shared-slice-read-t8 c = search needs
 
--- src/lib.rt:263:19
 cast-t9 : tie.Need-cast-t9
 cast-t9 c = omega (arith, c .shared-slice-known3 .given 6)
 
--- src/lib.rt:264:16
 read8-requires : tie.Need-read8-requires
 read8-requires c κs = search needs
 
--- src/lib.rt:265:16
 read2-requires-2 : tie.Need-read2-requires-2
 read2-requires-2 c κs = search needs
 
--- src/lib.rt:265:16
 cast-t12 : tie.Need-cast-t12
 cast-t12 c = search needs
 
--- src/lib.rt:256:1
 returns : tie.Need-returns
 returns c = described-made _ (c .before .before .before .read2 .ensures) (c .before .read8 .ensures) (c .read22 .ensures)
 

@@ -1,52 +1,39 @@
 -- `listing::frame_bad`: each refusal denies a fact of the frame, and the last return has them all.
 -- Assumes nothing.
 use native.Mathlib.Omega.{arith}
-use mathlib.Core.Path.{sym, _∙_}
+use mathlib.Core.Path.{sym}
 use Rattle.listing.proofs.RecordLaws.{frame-bad, frame-good}
 use borrow.Author.Needs.{needs}
 use Rattle.listing.proofs.frame_bad.Statement.{statement}
 use Rattle.listing.proofs.frame_bad.Tie as tie
-use Rattle.listing.proofs.frame_bad.Reads as reads
-use Rattle.listing.proofs.frame_bad.Lts as lts
-use Rattle.words.proofs.read4.Reads as read4-reads
 
--- src/lib.rt:237:9
 returns : tie.Need-returns
 returns c = frame-bad _ (λ f. omega (arith, f .start))
 
--- src/lib.rt:239:18
 read4-requires : tie.Need-read4-requires
 read4-requires c κs = search needs
 
--- src/lib.rt:239:18
 cast-length : tie.Need-cast-length
 cast-length c = search needs
 
--- src/lib.rt:241:9
 returns-2 : tie.Need-returns-2
 returns-2 c = frame-bad _ (λ f. omega (arith, f .most, c .before .read4 .ensures))
 
--- src/lib.rt:244:9
 returns-3 : tie.Need-returns-3
 returns-3 c = frame-bad _ (λ f. omega (arith, f .least, c .before .before .read4 .ensures))
 
--- src/lib.rt:246:23
 add-if4 : tie.Need-add-if4
 add-if4 c = search needs
 
--- src/lib.rt:247:9
 returns-4 : tie.Need-returns-4
 returns-4 c = frame-bad _ (λ f. c .if4 .taken (omega (arith, f .whole, c .before .before .before .read4 .ensures)))
 
--- src/lib.rt:249:8
 shared-slice-read-if5 : tie.Need-shared-slice-read-if5
 shared-slice-read-if5 c = search needs
 
--- src/lib.rt:250:9
 returns-5 : tie.Need-returns-5
 returns-5 c = frame-bad _ (λ f. c .if5 .taken (f .version))
 
--- src/lib.rt:233:1
 returns-6 : tie.Need-returns-6
 returns-6 c = sym (frame-good _ (record { start = omega arith; most = omega (arith, c .before .before .before .before .before .read4 .ensures); least = omega (arith, c .before .before .before .before .before .read4 .ensures); whole = omega (arith, c .before .before .before .before .before .read4 .ensures); version = c .if5 .left }))
 

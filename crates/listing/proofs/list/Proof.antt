@@ -1,64 +1,44 @@
 -- `listing::list`: a refusal is one line; what is not refused is a segment in its frame.
 -- Assumes nothing.
 use native.Mathlib.Omega.{arith}
-use mathlib.Core.Path.{sym, ap, _∙_}
 use Rattle.listing.proofs.ListingLaws.{list-as, list-whole, refused-is, listed-is, list-fits}
 use borrow.Author.Needs.{needs}
 use Rattle.listing.proofs.list.Statement.{statement}
 use Rattle.listing.proofs.list.Tie as tie
-use Rattle.listing.proofs.list.Reads as reads
-use Rattle.listing.proofs.list.Lts as lts
-use Rattle.answer.proofs.good.Reads as good-reads
-use Rattle.listing.proofs.described.Reads as described-reads
-use Rattle.listing.proofs.print_listed.Reads as print-listed-reads
-use Rattle.listing.proofs.print_refused.Reads as print-refused-reads
-use Rattle.listing.proofs.record_answer.Reads as record-answer-reads
 
--- src/lib.rt:369:9
 record-answer-requires : tie.Need-record-answer-requires
 record-answer-requires c κs = search needs
 
--- src/lib.rt:370:9
 good-requires : tie.Need-good-requires
 good-requires c κs = search needs
 
--- src/lib.rt:371:9
 print-refused-requires : tie.Need-print-refused-requires
 print-refused-requires c κs = search needs
 
--- src/lib.rt:371:9
 same-length : tie.Need-same-length
 same-length c = search needs
 
--- src/lib.rt:371:9
 returns : tie.Need-returns
 returns c = list-as _ (refused-is _ (c .before .before .before .before .before .before .record-answer .ensures) (c .before .before .before .before .before .good2 .ensures) (c .before .before .before .before .if1 .taken)) (c .before .before .print-refused .ensures)
 
--- src/lib.rt:373:18
 described-requires : tie.Need-described-requires
 described-requires c κs = list-whole _ (c .before .before .record-answer .ensures) (c .before .good2 .ensures) (c .if1 .left) .frame
 
--- src/lib.rt:373:36
 sub-print-listed : tie.Need-sub-print-listed
 sub-print-listed c = let f = list-whole _ (c .before .before .before .record-answer .ensures) (c .before .before .good2 .ensures) (c .before .if1 .left) .frame in omega (arith, f .whole, f .least)
 
--- src/lib.rt:373:36
 part-print-listed-start : tie.Need-part-print-listed-start
 part-print-listed-start c = let f = list-whole _ (c .before .before .before .record-answer .ensures) (c .before .before .good2 .ensures) (c .before .if1 .left) .frame in omega (arith, f .whole, f .least)
 
--- src/lib.rt:373:36
 part-print-listed-end : tie.Need-part-print-listed-end
 part-print-listed-end c = search needs
 
--- src/lib.rt:373:5
 print-listed-requires : tie.Need-print-listed-requires
 print-listed-requires c κs = list-fits _ (list-whole _ (c .before .before .before .before .before .record-answer .ensures) (c .before .before .before .before .good2 .ensures) (c .before .before .before .if1 .left)) (c .before .before .described .ensures)
 
--- src/lib.rt:366:1
 same-length-2 : tie.Need-same-length-2
 same-length-2 c = search needs
 
--- src/lib.rt:366:1
 returns-2 : tie.Need-returns-2
 returns-2 c = list-as _ (listed-is _ (c .before .before .before .before .before .before .before .before .record-answer .ensures) (c .before .before .before .before .before .before .before .good2 .ensures) (c .before .before .before .before .before .before .if1 .left) (c .before .before .before .before .before .described .ensures)) (c .before .before .print-listed .ensures)
 

@@ -1,6 +1,6 @@
 -- `listing::print_block`: the lines that are printed, and those of the intervals that are left, make up the block's.
 -- Assumes nothing.
-use mathlib.Core.Path.{_≡_, refl, sym, ap, _∙_}
+use mathlib.Core.Path.{_≡_, sym, ap, _∙_}
 use mathlib.Core.Bool.{Bool}
 use mathlib.Core.List.{List, [], _∷_, _++_, append-assoc, append-nil}
 use Prim.Native.Nat.{ℕ, _+_, _-_, _*_, _^_, _<_, _≤_}
@@ -20,11 +20,6 @@ use Rattle.listing.proofs.BlockLaws.{interval-turn, own-line, intervals
 use borrow.Author.Needs.{needs}
 use Rattle.listing.proofs.print_block.Statement.{statement}
 use Rattle.listing.proofs.print_block.Tie as tie
-use Rattle.listing.proofs.print_block.Reads as reads
-use Rattle.listing.proofs.print_block.Lts as lts
-use Rattle.judge.proofs.any_escaped.Reads as any-escaped-reads
-use Rattle.judge.proofs.next_interval.Reads as next-interval-reads
-use Rattle.listing.proofs.print_interval.Reads as print-interval-reads
 
 record Going (r : Rules) (k : Bool) (p : Place) (s : List ℕ) (t : Sheet) (out₀ out : List ℕ) (left : ℕ) (here : Place) (number : ℕ) (u : Sheet) (i : ℕ) : Type 0 where
   from : i + left * (r .size + 8) ≡ length s
@@ -89,63 +84,48 @@ Inv-loop t r s out₀ size skipped left₀ here₀ number₀ now₀ i₀ out lef
 abbrev μ-loop : tie.MeasureT-loop
 μ-loop t r s out₀ size skipped left₀ here₀ number₀ now₀ i₀ out left here number now i = left
 
--- src/lib.rt:172:9
 any-escaped-requires : tie.Need-any-escaped-requires Inv-loop μ-loop
 any-escaped-requires c κs = sym (one-mul _) ∙ c .before .before .pre .1 .0 .whole
 
--- src/lib.rt:178:5
 loop-holds : tie.Need-loop-holds Inv-loop μ-loop
 loop-holds c = begins (c .before .before .before .pre .1 .0) (c .before .before .before .pre .1 .1) (c .any-escaped .ensures)
 
--- src/lib.rt:179:24
 add-end : tie.Need-add-end Inv-loop μ-loop
 add-end c = search needs
 
--- src/lib.rt:179:19
 add-end-2 : tie.Need-add-end-2 Inv-loop μ-loop
 add-end-2 c = omega (arith, within (c .before .loop .inv) (c .loop-test .taken), c .before .before .before .before .before .good)
 
--- src/lib.rt:180:59
 sub-print-interval : tie.Need-sub-print-interval Inv-loop μ-loop
 sub-print-interval c = search needs
 
--- src/lib.rt:180:59
 part-print-interval-start : tie.Need-part-print-interval-start Inv-loop μ-loop
 part-print-interval-start c = search needs
 
--- src/lib.rt:180:59
 part-print-interval-end : tie.Need-part-print-interval-end Inv-loop μ-loop
 part-print-interval-end c = within (c .before .loop .inv) (c .loop-test .taken)
 
--- src/lib.rt:180:9
 print-interval-requires : tie.Need-print-interval-requires Inv-loop μ-loop
 print-interval-requires c κs = (c .before .before .before .before .before .before .before .pre .0, (whole (c .before .before .before .loop .inv) (c .before .before .loop-test .taken), one (c .before .before .before .loop .inv) (c .before .before .loop-test .taken)))
 
--- src/lib.rt:181:9
 next-interval-requires : tie.Need-next-interval-requires Inv-loop μ-loop
 next-interval-requires c κs = omega (arith, c .before .before .before .before .before .before .loop .inv .places, c .before .before .before .before .before .loop-test .taken)
 
--- src/lib.rt:182:9
 add-number : tie.Need-add-number Inv-loop μ-loop
 add-number c = omega (arith, c .before .before .before .before .before .before .before .loop .inv .numbers, c .before .before .before .before .before .before .loop-test .taken)
 
--- src/lib.rt:184:9
 sub-left : tie.Need-sub-left Inv-loop μ-loop
 sub-left c = search needs
 
--- src/lib.rt:178:5
 loop-less : tie.Need-loop-less Inv-loop μ-loop
 loop-less c = search needs
 
--- src/lib.rt:178:5
 loop-again : tie.Need-loop-again Inv-loop μ-loop
 loop-again c = turn (c .before .before .before .before .before .before .before .loop .inv) (c .before .before .before .before .before .before .loop-test .taken) (c .before .before .before .print-interval .ensures) (c .next-interval .ensures)
 
--- src/lib.rt:164:1
 same-length : tie.Need-same-length Inv-loop μ-loop
 same-length c = written-length (c .before .loop .inv .printed .text)
 
--- src/lib.rt:164:1
 returns : tie.Need-returns Inv-loop μ-loop
 returns c = ends (c .before .loop .inv) (c .loop-test .left)
 

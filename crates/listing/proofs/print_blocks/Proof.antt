@@ -21,10 +21,6 @@ use Rattle.listing.proofs.BlockLaws.{block-turn, own-block-lines, block
 use borrow.Author.Needs.{needs}
 use Rattle.listing.proofs.print_blocks.Statement.{statement}
 use Rattle.listing.proofs.print_blocks.Tie as tie
-use Rattle.listing.proofs.print_blocks.Reads as reads
-use Rattle.listing.proofs.print_blocks.Lts as lts
-use Rattle.judge.proofs.next_block.Reads as next-block-reads
-use Rattle.listing.proofs.print_block.Reads as print-block-reads
 
 block-fits : (n size : ℕ) → n ≤ 8 → size ≤ 4096 → n * (size + 8) ≤ 8 * (4096 + 8)
 block-fits n size h l = mul-le-mul {m₂ = 4096 + 8} h (omega arith)
@@ -92,59 +88,45 @@ Inv-loop t r count s out₀ n block left₀ here₀ now₀ i₀ out left here no
 abbrev μ-loop : tie.MeasureT-loop
 μ-loop t r count s out₀ n block left₀ here₀ now₀ i₀ out left here now i = left
 
--- src/lib.rt:197:22
 add-block : tie.Need-add-block Inv-loop μ-loop
 add-block c = search needs
 
--- src/lib.rt:197:17
 mul-block : tie.Need-mul-block Inv-loop μ-loop
 mul-block c = let run = c .before .before .before .pre .1 .0 in omega (arith, block-fits _ _ (run .few) (run .size))
 
--- src/lib.rt:202:5
 loop-holds : tie.Need-loop-holds Inv-loop μ-loop
 loop-holds c = begins (c .before .before .before .pre .1 .0) (c .before .before .before .pre .1 .1)
 
--- src/lib.rt:203:19
 add-end : tie.Need-add-end Inv-loop μ-loop
 add-end c = omega (arith, within (c .before .loop .inv) (c .loop-test .taken), c .before .before .before .before .before .good)
 
--- src/lib.rt:204:39
 sub-print-block : tie.Need-sub-print-block Inv-loop μ-loop
 sub-print-block c = search needs
 
--- src/lib.rt:204:39
 part-print-block-start : tie.Need-part-print-block-start Inv-loop μ-loop
 part-print-block-start c = search needs
 
--- src/lib.rt:204:39
 part-print-block-end : tie.Need-part-print-block-end Inv-loop μ-loop
 part-print-block-end c = within (c .before .loop .inv) (c .loop-test .taken)
 
--- src/lib.rt:204:9
 print-block-requires : tie.Need-print-block-requires Inv-loop μ-loop
 print-block-requires c κs = (c .before .before .before .before .before .before .before .pre .0, (first (c .before .before .before .loop .inv) (c .before .before .loop-test .taken), one (c .before .before .before .loop .inv) (c .before .before .loop-test .taken)))
 
--- src/lib.rt:205:9
 next-block-requires : tie.Need-next-block-requires Inv-loop μ-loop
 next-block-requires c κs = places (c .before .before .before .before .before .before .loop .inv) (c .before .before .before .before .before .loop-test .taken)
 
--- src/lib.rt:207:9
 sub-left : tie.Need-sub-left Inv-loop μ-loop
 sub-left c = search needs
 
--- src/lib.rt:202:5
 loop-less : tie.Need-loop-less Inv-loop μ-loop
 loop-less c = search needs
 
--- src/lib.rt:202:5
 loop-again : tie.Need-loop-again Inv-loop μ-loop
 loop-again c = turn (c .before .before .before .before .before .before .before .loop .inv) (c .before .before .before .before .before .before .loop-test .taken) (c .before .before .before .print-block .ensures) (c .next-block .ensures)
 
--- src/lib.rt:190:1
 same-length : tie.Need-same-length Inv-loop μ-loop
 same-length c = written-length (c .before .loop .inv .printed .text)
 
--- src/lib.rt:190:1
 returns : tie.Need-returns Inv-loop μ-loop
 returns c = ends (c .before .loop .inv) (c .loop-test .left)
 

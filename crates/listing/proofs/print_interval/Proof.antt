@@ -1,51 +1,35 @@
 -- `listing::print_interval`: one line, printed and counted.
 -- Assumes nothing.
 use native.Mathlib.Omega.{arith}
-use Rattle.text.proofs.Writing.{written-length}
 use Rattle.listing.proofs.SheetLaws.{faulty-most, skips-most, printed-one}
 use borrow.Author.Needs.{needs}
 use Rattle.listing.proofs.print_interval.Statement.{statement}
 use Rattle.listing.proofs.print_interval.Tie as tie
-use Rattle.listing.proofs.print_interval.Reads as reads
-use Rattle.listing.proofs.print_interval.Lts as lts
-use Rattle.listing.proofs.faulty.Reads as faulty-reads
-use Rattle.listing.proofs.line_of.Reads as line-of-reads
-use Rattle.listing.proofs.print_line.Reads as print-line-reads
-use Rattle.listing.proofs.skips.Reads as skips-reads
 
--- src/lib.rt:152:9
 line-of-requires : tie.Need-line-of-requires
 line-of-requires c κs = search needs
 
--- src/lib.rt:154:9
 print-line-requires : tie.Need-print-line-requires
 print-line-requires c κs = search needs
 
--- src/lib.rt:157:16
 add-t14 : tie.Need-add-t14
 add-t14 c = search needs
 
--- src/lib.rt:158:32
 faulty-requires : tie.Need-faulty-requires
 faulty-requires c κs = search needs
 
--- src/lib.rt:158:17
 add-t16 : tie.Need-add-t16
 add-t16 c = omega (arith, c .before .faulty .ensures, faulty-most (c .before .before .before .before .before .before .before .line-of .result .state), c .before .before .before .before .before .before .before .before .before .before .pre .1 .1)
 
--- src/lib.rt:159:34
 skips-requires : tie.Need-skips-requires
 skips-requires c κs = search needs
 
--- src/lib.rt:159:18
 add-t18 : tie.Need-add-t18
 add-t18 c = omega (arith, c .before .skips .ensures, skips-most (c .before .before .before .before .before .before .before .before .before .line-of .result .state), c .before .before .before .before .before .before .before .before .before .before .before .before .pre .1 .1)
 
--- src/lib.rt:146:1
 same-length : tie.Need-same-length
 same-length c = search needs
 
--- src/lib.rt:146:1
 returns : tie.Need-returns
 returns c = printed-one (c .before .before .before .before .before .before .before .before .before .line-of .result) _ (c .before .before .before .before .before .before .before .before .before .before .before .before .args .sheet) (c .before .before .before .before .before .before .before .before .before .line-of .ensures) (c .before .before .before .before .before .before .before .print-line .ensures) (c .before .before .before .faulty .ensures) (c .before .skips .ensures)
 

@@ -7,58 +7,40 @@ use Rattle.listing.proofs.LineLaws.{line-written, state-end}
 use borrow.Author.Needs.{needs}
 use Rattle.listing.proofs.print_line.Statement.{statement}
 use Rattle.listing.proofs.print_line.Tie as tie
-use Rattle.listing.proofs.print_line.Reads as reads
-use Rattle.listing.proofs.print_line.Lts as lts
-use Rattle.listing.proofs.print_state.Reads as print-state-reads
-use Rattle.text.proofs.decimal_then.Reads as decimal-then-reads
-use Rattle.text.proofs.hexadecimal_then.Reads as hexadecimal-then-reads
-use Rattle.text.proofs.put.Reads as put-reads
 
--- src/lib.rt:136:9
 decimal-then-requires : tie.Need-decimal-then-requires
 decimal-then-requires c κs = search needs
 
--- src/lib.rt:137:9
 decimal-then-requires-2 : tie.Need-decimal-then-requires-2
 decimal-then-requires-2 c κs = omega (arith, decimal-then-end _ _ (c .before .before .before .decimal-then .ensures))
 
--- src/lib.rt:138:47
 cast-hexadecimal-then : tie.Need-cast-hexadecimal-then
 cast-hexadecimal-then c = search needs
 
--- src/lib.rt:138:9
 hexadecimal-then-requires : tie.Need-hexadecimal-then-requires
 hexadecimal-then-requires c κs = omega (arith, decimal-then-end _ _ (c .before .before .before .before .before .before .before .before .decimal-then .ensures), decimal-then-end _ _ (c .before .before .before .before .decimal-then2 .ensures))
 
--- src/lib.rt:139:47
 cast-hexadecimal-then-2 : tie.Need-cast-hexadecimal-then-2
 cast-hexadecimal-then-2 c = search needs
 
--- src/lib.rt:139:9
 hexadecimal-then-requires-2 : tie.Need-hexadecimal-then-requires-2
 hexadecimal-then-requires-2 c κs = omega (arith, decimal-then-end _ _ (c .before .before .before .before .before .before .before .before .before .before .before .before .before .decimal-then .ensures), decimal-then-end _ _ (c .before .before .before .before .before .before .before .before .before .decimal-then2 .ensures), hexadecimal-then-end 4 _ _ (c .before .before .before .before .hexadecimal-then .ensures))
 
--- src/lib.rt:140:47
 cast-hexadecimal-then-3 : tie.Need-cast-hexadecimal-then-3
 cast-hexadecimal-then-3 c = search needs
 
--- src/lib.rt:140:9
 hexadecimal-then-requires-3 : tie.Need-hexadecimal-then-requires-3
 hexadecimal-then-requires-3 c κs = omega (arith, decimal-then-end _ _ (c .before .before .before .before .before .before .before .before .before .before .before .before .before .before .before .before .before .before .decimal-then .ensures), decimal-then-end _ _ (c .before .before .before .before .before .before .before .before .before .before .before .before .before .before .decimal-then2 .ensures), hexadecimal-then-end 4 _ _ (c .before .before .before .before .before .before .before .before .before .hexadecimal-then .ensures), hexadecimal-then-end 4 _ _ (c .before .before .before .before .hexadecimal-then2 .ensures))
 
--- src/lib.rt:141:9
 print-state-requires : tie.Need-print-state-requires
 print-state-requires c κs = omega (arith, c .before .before .before .before .before .before .before .before .before .before .before .before .before .before .before .before .before .before .before .before .before .before .before .before .before .pre, decimal-then-end _ _ (c .before .before .before .before .before .before .before .before .before .before .before .before .before .before .before .before .before .before .before .before .before .before .decimal-then .ensures), decimal-then-end _ _ (c .before .before .before .before .before .before .before .before .before .before .before .before .before .before .before .before .before .before .decimal-then2 .ensures), hexadecimal-then-end 4 _ _ (c .before .before .before .before .before .before .before .before .before .before .before .before .before .hexadecimal-then .ensures), hexadecimal-then-end 4 _ _ (c .before .before .before .before .before .before .before .before .hexadecimal-then2 .ensures), hexadecimal-then-end 8 _ _ (c .before .before .before .hexadecimal-then3 .ensures))
 
--- src/lib.rt:142:5
 put-requires : tie.Need-put-requires
 put-requires c κs = omega (arith, c .before .before .before .before .before .before .before .before .before .before .before .before .before .before .before .before .before .before .before .before .before .before .before .before .before .before .before .before .before .pre, decimal-then-end _ _ (c .before .before .before .before .before .before .before .before .before .before .before .before .before .before .before .before .before .before .before .before .before .before .before .before .before .before .decimal-then .ensures), decimal-then-end _ _ (c .before .before .before .before .before .before .before .before .before .before .before .before .before .before .before .before .before .before .before .before .before .before .decimal-then2 .ensures), hexadecimal-then-end 4 _ _ (c .before .before .before .before .before .before .before .before .before .before .before .before .before .before .before .before .before .hexadecimal-then .ensures), hexadecimal-then-end 4 _ _ (c .before .before .before .before .before .before .before .before .before .before .before .before .hexadecimal-then2 .ensures), hexadecimal-then-end 8 _ _ (c .before .before .before .before .before .before .before .hexadecimal-then3 .ensures), state-end (c .before .before .before .before .before .before .before .before .before .before .before .before .before .before .before .before .before .before .before .before .before .before .before .before .before .before .before .before .before .args .l .state) (c .before .before .before .print-state .ensures))
 
--- src/lib.rt:131:1
 returns : tie.Need-returns
 returns c = line-written _ (c .before .before .before .before .before .before .before .before .before .before .before .before .before .before .before .before .before .before .before .before .before .before .before .before .before .before .before .before .before .decimal-then .ensures) (c .before .before .before .before .before .before .before .before .before .before .before .before .before .before .before .before .before .before .before .before .before .before .before .before .before .decimal-then2 .ensures) (c .before .before .before .before .before .before .before .before .before .before .before .before .before .before .before .before .before .before .before .before .hexadecimal-then .ensures) (c .before .before .before .before .before .before .before .before .before .before .before .before .before .before .before .hexadecimal-then2 .ensures) (c .before .before .before .before .before .before .before .before .before .before .hexadecimal-then3 .ensures) (c .before .before .before .before .before .before .print-state .ensures) (c .before .before .put .ensures)
 
--- src/lib.rt:131:1
 same-length : tie.Need-same-length
 same-length c = written-length (returns c)
 

@@ -6,33 +6,22 @@ use Rattle.listing.specs.Lines.{headerText}
 use borrow.Author.Needs.{needs}
 use Rattle.listing.proofs.print_listed.Statement.{statement}
 use Rattle.listing.proofs.print_listed.Tie as tie
-use Rattle.listing.proofs.print_listed.Reads as reads
-use Rattle.listing.proofs.print_listed.Lts as lts
-use Rattle.listing.proofs.print_segment.Reads as print-segment-reads
-use Rattle.listing.proofs.print_total.Reads as print-total-reads
-use Rattle.text.proofs.put_word.Reads as put-word-reads
 
--- src/lib.rt:350:37
 slice-aggregate-put-word : tie.Need-slice-aggregate-put-word
 slice-aggregate-put-word c = search needs
 
--- src/lib.rt:350:9
 put-word-requires : tie.Need-put-word-requires
 put-word-requires c κs = search needs
 
--- src/lib.rt:351:9
 print-segment-requires : tie.Need-print-segment-requires
 print-segment-requires c κs = search needs
 
--- src/lib.rt:362:5
 print-total-requires : tie.Need-print-total-requires
 print-total-requires c κs = omega (arith, lines-end _ _ (c .before .before .before .before .before .before .before .before .before .before .before .before .pre .0) (c .before .before .before .before .before .before .before .before .before .before .before .before .pre .1 .0) (omega (arith, c .before .before .before .before .before .before .before .put-word .ensures .end)) (c .before .before .before .before .before .before .before .before .before .before .before .before .pre .1 .1) (c .before .before .before .print-segment .ensures))
 
--- src/lib.rt:344:1
 same-length : tie.Need-same-length
 same-length c = search needs
 
--- src/lib.rt:344:1
 returns : tie.Need-returns
 unfolding headerText
 returns c = listed-written _ _ (c .before .before .before .before .before .before .before .before .before .before .put-word .ensures) (c .before .before .before .before .before .before .print-segment .ensures) (c .before .before .print-total .ensures)

@@ -1,47 +1,31 @@
 -- `listing::print_segment`: type 0 has no lines; the others have those of their blocks.
 -- Assumes nothing.
-use Rattle.text.proofs.Writing.{written-length}
 use Rattle.listing.proofs.ListingLaws.{lines-plain, blocks-run, blocks-room, blocks-printed}
 use borrow.Author.Needs.{needs}
 use Rattle.listing.proofs.print_segment.Statement.{statement}
 use Rattle.listing.proofs.print_segment.Tie as tie
-use Rattle.listing.proofs.print_segment.Reads as reads
-use Rattle.listing.proofs.print_segment.Lts as lts
-use Rattle.checks.proofs.rules.Reads as rules-reads
-use Rattle.checks.proofs.start.Reads as start-reads
-use Rattle.guard.proofs.table.Reads as table-reads
-use Rattle.listing.proofs.print_blocks.Reads as print-blocks-reads
-use Rattle.listing.proofs.read_all.Reads as read-all-reads
 
--- src/lib.rt:334:9
 returns : tie.Need-returns
 returns c = lines-plain _ _ (c .before .before .before .before .pre .0) (c .before .before .before .before .pre .1 .0) (c .if1 .taken)
 
--- src/lib.rt:336:9
 read-all-requires : tie.Need-read-all-requires
 read-all-requires c κs = search needs
 
--- src/lib.rt:337:13
 table-requires : tie.Need-table-requires
 table-requires c κs = search needs
 
--- src/lib.rt:338:9
 rules-requires : tie.Need-rules-requires
 rules-requires c κs = search needs
 
--- src/lib.rt:339:9
 start-requires : tie.Need-start-requires
 start-requires c κs = search needs
 
--- src/lib.rt:340:5
 print-blocks-requires : tie.Need-print-blocks-requires
 print-blocks-requires c κs = (c .before .before .before .before .table .ensures, (blocks-run _ _ (c .before .before .before .before .before .before .before .before .before .before .pre .0) (c .before .before .before .before .before .before .before .before .before .before .pre .1 .0) (c .before .before .before .before .before .before .if1 .left) (c .before .before .before .before .before .read-all .ensures) (c .before .before .before .rules .ensures) (c .before .before .start .ensures), blocks-room _ (c .before .before .before .before .before .before .before .before .before .before .args .s .now) (c .before .before .before .before .before .before .before .before .before .before .pre .0) (c .before .before .before .before .before .before .before .before .before .before .pre .1 .0) (c .before .before .before .before .before .before .if1 .left) (c .before .before .before .before .before .read-all .ensures) (c .before .before .before .rules .ensures) (c .before .before .start .ensures) (c .before .before .before .before .before .before .before .before .before .before .pre .1 .1)))
 
--- src/lib.rt:327:1
 same-length : tie.Need-same-length
 same-length c = search needs
 
--- src/lib.rt:327:1
 returns-2 : tie.Need-returns-2
 returns-2 c = blocks-printed _ _ (c .before .before .before .before .before .before .before .before .before .before .before .before .before .pre .0) (c .before .before .before .before .before .before .before .before .before .before .before .before .before .pre .1 .0) (c .before .before .before .before .before .before .before .before .before .if1 .left) (c .before .before .before .before .before .before .before .before .read-all .ensures) (c .before .before .before .before .before .before .rules .ensures) (c .before .before .before .before .before .start .ensures) (c .before .before .print-blocks .ensures)
 

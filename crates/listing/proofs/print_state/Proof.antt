@@ -6,87 +6,64 @@ use Rattle.listing.specs.Lines.{stateText}
 use borrow.Author.Needs.{needs}
 use Rattle.listing.proofs.print_state.Statement.{statement}
 use Rattle.listing.proofs.print_state.Tie as tie
-use Rattle.listing.proofs.print_state.Reads as reads
-use Rattle.listing.proofs.print_state.Lts as lts
-use Rattle.text.proofs.put_word.Reads as put-word-reads
 
--- src/lib.rt:124:42
 enum-told : tie.Need-enum-told
 enum-told c = search needs
 
--- src/lib.rt:124:51
 slice-aggregate-put-word : tie.Need-slice-aggregate-put-word
 slice-aggregate-put-word c = search needs
 
--- src/lib.rt:124:27
 put-word-requires : tie.Need-put-word-requires
 put-word-requires c κs = search needs
 
--- src/lib.rt:125:40
 enum-told-2 : tie.Need-enum-told-2
 enum-told-2 c = search needs
 
--- src/lib.rt:125:49
 slice-aggregate-put-word-2 : tie.Need-slice-aggregate-put-word-2
 slice-aggregate-put-word-2 c = search needs
 
--- src/lib.rt:125:25
 put-word-requires-2 : tie.Need-put-word-requires-2
 put-word-requires-2 c κs = search needs
 
--- src/lib.rt:126:38
 enum-told-3 : tie.Need-enum-told-3
 enum-told-3 c = search needs
 
--- src/lib.rt:126:47
 slice-aggregate-put-word-3 : tie.Need-slice-aggregate-put-word-3
 slice-aggregate-put-word-3 c = search needs
 
--- src/lib.rt:126:23
 put-word-requires-3 : tie.Need-put-word-requires-3
 put-word-requires-3 c κs = search needs
 
--- src/lib.rt:127:37
 enum-told-4 : tie.Need-enum-told-4
 enum-told-4 c = search needs
 
--- src/lib.rt:127:46
 slice-aggregate-put-word-4 : tie.Need-slice-aggregate-put-word-4
 slice-aggregate-put-word-4 c = search needs
 
--- src/lib.rt:127:22
 put-word-requires-4 : tie.Need-put-word-requires-4
 put-word-requires-4 c κs = search needs
 
--- src/lib.rt:119:1
 same-length : tie.Need-same-length
 same-length c = search needs
 
--- src/lib.rt:119:1
 returns : tie.Need-returns
 returns c = written-as (sym (ap stateText (c .before .before .before .before .before .enum-told .given .1))) (c .before .before .put-word .ensures)
 
--- src/lib.rt:119:1
 same-length-2 : tie.Need-same-length-2
 same-length-2 c = search needs
 
--- src/lib.rt:119:1
 returns-2 : tie.Need-returns-2
 returns-2 c = written-as (sym (ap stateText (c .before .before .before .before .before .enum-told2 .given .1))) (c .before .before .put-word2 .ensures)
 
--- src/lib.rt:119:1
 same-length-3 : tie.Need-same-length-3
 same-length-3 c = search needs
 
--- src/lib.rt:119:1
 returns-3 : tie.Need-returns-3
 returns-3 c = written-as (sym (ap stateText (c .before .before .before .before .before .enum-told3 .given .1))) (c .before .before .put-word3 .ensures)
 
--- src/lib.rt:119:1
 same-length-4 : tie.Need-same-length-4
 same-length-4 c = search needs
 
--- src/lib.rt:119:1
 returns-4 : tie.Need-returns-4
 returns-4 c = written-as (sym (ap stateText (c .before .before .before .before .before .enum-told4 .given .1))) (c .before .before .put-word4 .ensures)
 

@@ -8,54 +8,38 @@ use Rattle.listing.proofs.ListingLaws.{numbers-written}
 use borrow.Author.Needs.{needs}
 use Rattle.listing.proofs.print_total.Statement.{statement}
 use Rattle.listing.proofs.print_total.Tie as tie
-use Rattle.listing.proofs.print_total.Reads as reads
-use Rattle.listing.proofs.print_total.Lts as lts
-use Rattle.text.proofs.decimal.Reads as decimal-reads
-use Rattle.text.proofs.decimal_then.Reads as decimal-then-reads
-use Rattle.text.proofs.put_word.Reads as put-word-reads
 
--- src/lib.rt:292:39
 slice-aggregate-put-word : tie.Need-slice-aggregate-put-word
 slice-aggregate-put-word c = search needs
 
--- src/lib.rt:292:9
 put-word-requires : tie.Need-put-word-requires
 put-word-requires c κs = search needs
 
--- src/lib.rt:293:9
 decimal-requires : tie.Need-decimal-requires
 decimal-requires c κs = search needs
 
--- src/lib.rt:294:36
 slice-aggregate-put-word-2 : tie.Need-slice-aggregate-put-word-2
 slice-aggregate-put-word-2 c = search needs
 
--- src/lib.rt:294:9
 put-word-requires-2 : tie.Need-put-word-requires-2
 put-word-requires-2 c κs = omega (arith, c .before .before .before .before .before .before .before .before .before .before .before .before .pre, c .before .before .before .before .before .before .before .before .put-word .ensures .end, decimal-end _ (c .before .before .before .before .decimal .ensures))
 
--- src/lib.rt:295:9
 decimal-requires-2 : tie.Need-decimal-requires-2
 decimal-requires-2 c κs = omega (arith, c .before .before .before .before .before .before .before .before .before .before .before .before .before .before .before .before .pre, c .before .before .before .before .before .before .before .before .before .before .before .before .put-word .ensures .end, decimal-end _ (c .before .before .before .before .before .before .before .before .decimal .ensures), c .before .before .before .put-word2 .ensures .end)
 
--- src/lib.rt:296:36
 slice-aggregate-put-word-3 : tie.Need-slice-aggregate-put-word-3
 slice-aggregate-put-word-3 c = search needs
 
--- src/lib.rt:296:9
 put-word-requires-3 : tie.Need-put-word-requires-3
 put-word-requires-3 c κs = omega (arith, c .before .before .before .before .before .before .before .before .before .before .before .before .before .before .before .before .before .before .before .before .before .pre, c .before .before .before .before .before .before .before .before .before .before .before .before .before .before .before .before .before .put-word .ensures .end, decimal-end _ (c .before .before .before .before .before .before .before .before .before .before .before .before .before .decimal .ensures), c .before .before .before .before .before .before .before .before .put-word2 .ensures .end, decimal-end _ (c .before .before .before .before .decimal2 .ensures))
 
--- src/lib.rt:297:5
 decimal-then-requires : tie.Need-decimal-then-requires
 decimal-then-requires c κs = omega (arith, c .before .before .before .before .before .before .before .before .before .before .before .before .before .before .before .before .before .before .before .before .before .before .before .before .before .pre, c .before .before .before .before .before .before .before .before .before .before .before .before .before .before .before .before .before .before .before .before .before .put-word .ensures .end, decimal-end _ (c .before .before .before .before .before .before .before .before .before .before .before .before .before .before .before .before .before .decimal .ensures), c .before .before .before .before .before .before .before .before .before .before .before .before .put-word2 .ensures .end, decimal-end _ (c .before .before .before .before .before .before .before .before .decimal2 .ensures), c .before .before .before .put-word3 .ensures .end)
 
--- src/lib.rt:288:1
 returns : tie.Need-returns
 unfolding intervalsText faultsText skippedText
 returns c = numbers-written _ _ _ (c .before .before .before .before .before .before .before .before .before .before .before .before .before .before .before .before .before .before .before .before .before .before .before .before .put-word .ensures) (c .before .before .before .before .before .before .before .before .before .before .before .before .before .before .before .before .before .before .before .before .decimal .ensures) (c .before .before .before .before .before .before .before .before .before .before .before .before .before .before .before .put-word2 .ensures) (c .before .before .before .before .before .before .before .before .before .before .before .decimal2 .ensures) (c .before .before .before .before .before .before .put-word3 .ensures) (c .before .before .decimal-then .ensures)
 
--- src/lib.rt:288:1
 same-length : tie.Need-same-length
 same-length c = written-length (returns c)
 

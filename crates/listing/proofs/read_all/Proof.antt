@@ -4,10 +4,7 @@ use Rattle.listing.specs.Listing.{readAll}
 use borrow.Author.Needs.{needs}
 use Rattle.listing.proofs.read_all.Statement.{statement}
 use Rattle.listing.proofs.read_all.Tie as tie
-use Rattle.listing.proofs.read_all.Reads as reads
-use Rattle.listing.proofs.read_all.Lts as lts
 
--- src/lib.rt:309:1
 returns : tie.Need-returns
 unfolding readAll
 returns c = search needs

@@ -7,40 +7,28 @@ use lib.Seq.{length-take-le}
 use borrow.Author.Needs.{needs}
 use Rattle.listing.proofs.state_of.Statement.{statement}
 use Rattle.listing.proofs.state_of.Tie as tie
-use Rattle.listing.proofs.state_of.Reads as reads
-use Rattle.listing.proofs.state_of.Lts as lts
-use Rattle.judge.proofs.judge_pieces.Reads as judge-pieces-reads
-use Rattle.listing.proofs.worded.Reads as worded-reads
 
--- src/lib.rt:95:9
 returns : tie.Need-returns
 returns c = state-skipped _ _ _ _ (c .if1 .taken)
 
--- src/lib.rt:98:41
 slice-aggregate-judge-pieces : tie.Need-slice-aggregate-judge-pieces
 slice-aggregate-judge-pieces c = sym (length-take-le _ _ (omega (arith, c .before .before .before .pre .1)))
 
--- src/lib.rt:98:53
 sub-judge-pieces : tie.Need-sub-judge-pieces
 sub-judge-pieces c = search needs
 
--- src/lib.rt:98:53
 part-judge-pieces-start : tie.Need-part-judge-pieces-start
 part-judge-pieces-start c = search needs
 
--- src/lib.rt:98:53
 part-judge-pieces-end : tie.Need-part-judge-pieces-end
 part-judge-pieces-end c = search needs
 
--- src/lib.rt:98:12
 judge-pieces-requires : tie.Need-judge-pieces-requires
 judge-pieces-requires c κs = search needs
 
--- src/lib.rt:98:5
 worded-requires : tie.Need-worded-requires
 worded-requires c κs = search needs
 
--- src/lib.rt:89:1
 returns-2 : tie.Need-returns-2
 returns-2 c = state-judged _ _ _ _ _ _ (c .before .before .before .before .before .before .pre .1) (c .before .before .before .before .if1 .left) (c .before .judge-pieces .ensures) (c .worded .ensures)
 

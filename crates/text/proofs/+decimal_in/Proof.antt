@@ -2,9 +2,6 @@
 -- Assumes nothing.
 use borrow.Author.Needs.{needs}
 use native.Mathlib.Omega.{arith}
-use native.Mathlib.Nat.{mod-lt}
-use lib.Dec.{lit<}
-use Rattle.text.proofs.Writing.{written-length}
 use Rattle.text.proofs.Digits.{decimal-none, decimalIn-end, decimal-last, decimal-next}
 use Prim.Native.Nat.{ℕ, _<_}
 use borrow.Fn.Kinds.{In}
@@ -28,7 +25,6 @@ abbrev decimal-in-below : ℕ → In 1 decimal-in-kinds.ps
 decimal-in-below t =
     and 1 decimal-in-kinds.ps (falls 1 decimal-in-kinds.ps _<_ μ-decimal-in t) decimal-in.Pre
 
--- src/lib.rt:64:9
 decimal-in-returns : (t : ℕ) → decimal-in-lts.Need-returns (
   digit-reads.Asked,
   digit-reads.Learnt,
@@ -39,7 +35,6 @@ decimal-in-returns : (t : ℕ) → decimal-in-lts.Need-returns (
 ) (decimal-in-at t) decimal-in.Post
 decimal-in-returns t c = search (decimal-none, needs)
 
--- src/lib.rt:67:29
 decimal-in-digit-requires : (t : ℕ) → decimal-in-lts.Need-digit-requires (
   digit-reads.Asked,
   digit-reads.Learnt,
@@ -50,7 +45,6 @@ decimal-in-digit-requires : (t : ℕ) → decimal-in-lts.Need-digit-requires (
 ) (decimal-in-at t) decimal-in.Post
 decimal-in-digit-requires t c κs = search needs
 
--- src/lib.rt:67:9
 decimal-in-put-requires : (t : ℕ) → decimal-in-lts.Need-put-requires (
   digit-reads.Asked,
   digit-reads.Learnt,
@@ -61,7 +55,6 @@ decimal-in-put-requires : (t : ℕ) → decimal-in-lts.Need-put-requires (
 ) (decimal-in-at t) decimal-in.Post
 decimal-in-put-requires t c κs = search needs
 
--- src/lib.rt:67:9
 decimal-in-same-length : (t : ℕ) → decimal-in-lts.Need-same-length (
   digit-reads.Asked,
   digit-reads.Learnt,
@@ -72,7 +65,6 @@ decimal-in-same-length : (t : ℕ) → decimal-in-lts.Need-same-length (
 ) (decimal-in-at t) decimal-in.Post
 decimal-in-same-length t c = search needs
 
--- src/lib.rt:67:9
 decimal-in-returns-2 : (t : ℕ) → decimal-in-lts.Need-returns-2 (
   digit-reads.Asked,
   digit-reads.Learnt,
@@ -83,7 +75,6 @@ decimal-in-returns-2 : (t : ℕ) → decimal-in-lts.Need-returns-2 (
 ) (decimal-in-at t) decimal-in.Post
 decimal-in-returns-2 t c = search (decimal-last, needs)
 
--- src/lib.rt:69:35
 decimal-in-sub-decimal-in : (t : ℕ) → decimal-in-lts.Need-sub-decimal-in (
   digit-reads.Asked,
   digit-reads.Learnt,
@@ -94,7 +85,6 @@ decimal-in-sub-decimal-in : (t : ℕ) → decimal-in-lts.Need-sub-decimal-in (
 ) (decimal-in-at t) decimal-in.Post
 decimal-in-sub-decimal-in t c = search needs
 
--- src/lib.rt:69:9
 decimal-in-decimal-in-requires : (t : ℕ) → decimal-in-lts.Need-decimal-in-requires (
   digit-reads.Asked,
   digit-reads.Learnt,
@@ -105,7 +95,6 @@ decimal-in-decimal-in-requires : (t : ℕ) → decimal-in-lts.Need-decimal-in-re
 ) (decimal-in-at t) decimal-in.Post
 decimal-in-decimal-in-requires t c κs = search needs
 
--- src/lib.rt:70:19
 decimal-in-digit-requires-2 : (t : ℕ) → decimal-in-lts.Need-digit-requires-2 (
   digit-reads.Asked,
   digit-reads.Learnt,
@@ -116,7 +105,6 @@ decimal-in-digit-requires-2 : (t : ℕ) → decimal-in-lts.Need-digit-requires-2
 ) (decimal-in-at t) decimal-in.Post
 decimal-in-digit-requires-2 t c κs = search needs
 
--- src/lib.rt:70:5
 decimal-in-put-requires-2 : (t : ℕ) → decimal-in-lts.Need-put-requires-2 (
   digit-reads.Asked,
   digit-reads.Learnt,
@@ -127,7 +115,6 @@ decimal-in-put-requires-2 : (t : ℕ) → decimal-in-lts.Need-put-requires-2 (
 ) (decimal-in-at t) decimal-in.Post
 decimal-in-put-requires-2 t c κs = omega (arith, decimalIn-end _ _ (c .before .before .before .before .decimal-in .ensures))
 
--- src/lib.rt:59:1
 decimal-in-same-length-2 : (t : ℕ) → decimal-in-lts.Need-same-length-2 (
   digit-reads.Asked,
   digit-reads.Learnt,
@@ -138,7 +125,6 @@ decimal-in-same-length-2 : (t : ℕ) → decimal-in-lts.Need-same-length-2 (
 ) (decimal-in-at t) decimal-in.Post
 decimal-in-same-length-2 t c = search needs
 
--- src/lib.rt:59:1
 decimal-in-returns-3 : (t : ℕ) → decimal-in-lts.Need-returns-3 (
   digit-reads.Asked,
   digit-reads.Learnt,

@@ -2,9 +2,6 @@
 -- Assumes nothing.
 use borrow.Author.Needs.{needs}
 use native.Mathlib.Omega.{arith}
-use native.Mathlib.Nat.{mod-lt}
-use lib.Dec.{lit<}
-use Rattle.text.proofs.Writing.{written-length}
 use Rattle.text.proofs.Digits.{hexadecimal-none, hexadecimal-end, hexadecimal-next}
 use Prim.Native.Nat.{ℕ, _<_}
 use borrow.Fn.Kinds.{In}
@@ -28,7 +25,6 @@ abbrev hexadecimal-below : ℕ → In 1 hexadecimal-kinds.ps
 hexadecimal-below t =
     and 1 hexadecimal-kinds.ps (falls 1 hexadecimal-kinds.ps _<_ μ-hexadecimal t) hexadecimal.Pre
 
--- src/lib.rt:52:9
 hexadecimal-returns : (t : ℕ) → hexadecimal-lts.Need-returns (
   hexadecimal-below t,
   hexadecimal.Post,
@@ -39,7 +35,6 @@ hexadecimal-returns : (t : ℕ) → hexadecimal-lts.Need-returns (
 ) (hexadecimal-at t) hexadecimal.Post
 hexadecimal-returns t c = search (hexadecimal-none, needs)
 
--- src/lib.rt:54:36
 hexadecimal-sub-hexadecimal : (t : ℕ) → hexadecimal-lts.Need-sub-hexadecimal (
   hexadecimal-below t,
   hexadecimal.Post,
@@ -50,7 +45,6 @@ hexadecimal-sub-hexadecimal : (t : ℕ) → hexadecimal-lts.Need-sub-hexadecimal
 ) (hexadecimal-at t) hexadecimal.Post
 hexadecimal-sub-hexadecimal t c = search needs
 
--- src/lib.rt:54:9
 hexadecimal-hexadecimal-requires : (t : ℕ) → hexadecimal-lts.Need-hexadecimal-requires (
   hexadecimal-below t,
   hexadecimal.Post,
@@ -61,7 +55,6 @@ hexadecimal-hexadecimal-requires : (t : ℕ) → hexadecimal-lts.Need-hexadecima
 ) (hexadecimal-at t) hexadecimal.Post
 hexadecimal-hexadecimal-requires t c κs = search needs
 
--- src/lib.rt:55:19
 hexadecimal-digit-requires : (t : ℕ) → hexadecimal-lts.Need-digit-requires (
   hexadecimal-below t,
   hexadecimal.Post,
@@ -72,7 +65,6 @@ hexadecimal-digit-requires : (t : ℕ) → hexadecimal-lts.Need-digit-requires (
 ) (hexadecimal-at t) hexadecimal.Post
 hexadecimal-digit-requires t c κs = search needs
 
--- src/lib.rt:55:5
 hexadecimal-put-requires : (t : ℕ) → hexadecimal-lts.Need-put-requires (
   hexadecimal-below t,
   hexadecimal.Post,
@@ -83,7 +75,6 @@ hexadecimal-put-requires : (t : ℕ) → hexadecimal-lts.Need-put-requires (
 ) (hexadecimal-at t) hexadecimal.Post
 hexadecimal-put-requires t c κs = omega (arith, hexadecimal-end _ _ (c .before .before .before .before .hexadecimal .ensures))
 
--- src/lib.rt:47:1
 hexadecimal-same-length : (t : ℕ) → hexadecimal-lts.Need-same-length (
   hexadecimal-below t,
   hexadecimal.Post,
@@ -94,7 +85,6 @@ hexadecimal-same-length : (t : ℕ) → hexadecimal-lts.Need-same-length (
 ) (hexadecimal-at t) hexadecimal.Post
 hexadecimal-same-length t c = search needs
 
--- src/lib.rt:47:1
 hexadecimal-returns-2 : (t : ℕ) → hexadecimal-lts.Need-returns-2 (
   hexadecimal-below t,
   hexadecimal.Post,

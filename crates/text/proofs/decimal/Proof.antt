@@ -4,19 +4,13 @@ use Rattle.text.specs.Text.{decimal}
 use borrow.Author.Needs.{needs}
 use Rattle.text.proofs.decimal.Statement.{statement}
 use Rattle.text.proofs.decimal.Tie as tie
-use Rattle.text.proofs.decimal.Reads as reads
-use Rattle.text.proofs.decimal.Lts as lts
-use Rattle.text.proofs.decimal_in.Reads as decimal-in-reads
 
--- src/lib.rt:78:5
 decimal-in-requires : tie.Need-decimal-in-requires
 decimal-in-requires c κs = search needs
 
--- src/lib.rt:74:1
 same-length : tie.Need-same-length
 same-length c = search needs
 
--- src/lib.rt:74:1
 returns : tie.Need-returns
 unfolding decimal
 returns c = search needs

@@ -4,30 +4,22 @@ use Rattle.text.proofs.Writing.{written-byte, written-out}
 use borrow.Author.Needs.{needs}
 use Rattle.text.proofs.put.Statement.{statement}
 use Rattle.text.proofs.put.Tie as tie
-use Rattle.text.proofs.put.Reads as reads
-use Rattle.text.proofs.put.Lts as lts
 
--- src/lib.rt:15:9
 slice-write-out : tie.Need-slice-write-out
 slice-write-out c = search needs
 
--- src/lib.rt:16:16
 add-result : tie.Need-add-result
 add-result c = search needs
 
--- src/lib.rt:16:9
 same-length : tie.Need-same-length
 same-length c = search needs
 
--- src/lib.rt:16:9
 returns : tie.Need-returns
 returns c = written-byte _ _ _
 
--- src/lib.rt:18:5
 add-result-2 : tie.Need-add-result-2
 add-result-2 c = search needs
 
--- src/lib.rt:10:1
 returns-2 : tie.Need-returns-2
 returns-2 c = written-out _ _ _ (c .if1 .left)
 

@@ -1,7 +1,7 @@
 -- `text::put_word`: the bytes that stand, and one byte more a turn.
 -- Assumes nothing.
-use mathlib.Core.Path.{_≡_, refl, sym, ap, _∙_}
-use mathlib.Core.List.{List, [], _∷_, _++_}
+use mathlib.Core.Path.{_≡_}
+use mathlib.Core.List.{List, [], _∷_}
 use Prim.Native.Nat.{ℕ, _+_, _-_, _<_, _≤_}
 use native.Mathlib.Numerals.{add-one}
 use native.Mathlib.Omega.{arith}
@@ -12,9 +12,6 @@ use Rattle.text.proofs.Writing.{written-none, written-then, written-len
 use borrow.Author.Needs.{needs}
 use Rattle.text.proofs.put_word.Statement.{statement}
 use Rattle.text.proofs.put_word.Tie as tie
-use Rattle.text.proofs.put_word.Reads as reads
-use Rattle.text.proofs.put_word.Lts as lts
-use Rattle.text.proofs.put.Reads as put-reads
 
 record Going (word : List ℕ) (at : ℕ) (out₀ out : List ℕ) (end i : ℕ) : Type 0 where
   within : i ≤ length word
@@ -34,35 +31,27 @@ Inv-loop out₀ at word end₀ i₀ out end i = Going word at out₀ out end i
 abbrev μ-loop : tie.MeasureT-loop
 μ-loop out₀ at word end₀ i₀ out end i = length word - i
 
--- src/lib.rt:28:5
 loop-holds : tie.Need-loop-holds Inv-loop μ-loop
 loop-holds c = record { within = omega arith; done = written-none _ _ }
 
--- src/lib.rt:29:29
 shared-slice-read-put : tie.Need-shared-slice-read-put Inv-loop μ-loop
 shared-slice-read-put c = search needs
 
--- src/lib.rt:29:9
 put-requires : tie.Need-put-requires Inv-loop μ-loop
 put-requires c κs = omega (arith, room (c .before .before .before .loop .inv))
 
--- src/lib.rt:30:9
 add-i : tie.Need-add-i Inv-loop μ-loop
 add-i c = search needs
 
--- src/lib.rt:28:5
 loop-less : tie.Need-loop-less Inv-loop μ-loop
 loop-less c = search needs
 
--- src/lib.rt:28:5
 loop-again : tie.Need-loop-again Inv-loop μ-loop
 loop-again c = search turn
 
--- src/lib.rt:22:1
 same-length : tie.Need-same-length Inv-loop μ-loop
 same-length c = written-length (c .before .loop .inv .done)
 
--- src/lib.rt:22:1
 returns : tie.Need-returns Inv-loop μ-loop
 returns c = let l = c .before .loop in rw (take-all (l .i) _ (c .loop-test .left)) at (l .inv .done)
 
