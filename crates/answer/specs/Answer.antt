@@ -1,6 +1,7 @@
 -- "Answer numbers": the table's number, sense, address and place for each answer.
 use Prim.Native.Nat.{ℕ}
 use mathlib.Core.Bool.{Bool, true, false, cond}
+use lib.Dec.{eqb}
 use Rattle.answer.specs.declared.Answer.{Answer}
 use Rattle.answer.specs.declared.Answer.the-variants.{Good, Description, Segment, CommandLength, BufferLength, Operation, Field, Address, Guard, Application, Reference, Stripe, Parameter, Listing, Size}
 
@@ -94,3 +95,12 @@ senseOf Stripe = 0
 senseOf Parameter = 0x05_26_00
 senseOf Listing = 0
 senseOf Size = 0
+
+-- the same by the number: | no. | sense |
+abbrev pub senseNumbered : ℕ → ℕ
+senseNumbered n =
+    cond (eqb n 5) 0x05_20_00
+    (cond (eqb n 6) 0x05_24_00
+    (cond (eqb n 7) 0x05_21_00
+    (cond (eqb n 8) 0x0B_10_01
+    (cond (eqb n 9) 0x0B_10_02 (cond (eqb n 10) 0x0B_10_03 (cond (eqb n 12) 0x05_26_00 0))))))

@@ -1,6 +1,6 @@
 // The answers of document 01's table, as one enum, and the numbers and senses of the paper.
 ghost use mathlib.Core.Path.{_≡_};
-ghost use Rattle.answer.specs.Answer.{numberOf, addressOf, placeOf, isGood, senseOf};
+ghost use Rattle.answer.specs.Answer.{numberOf, addressOf, placeOf, isGood, senseNumbered};
 
 pub enum Answer {
     Good,
@@ -112,25 +112,18 @@ pub fn good(a: Answer) -> bool
     }
 }
 
-// The sense that goes with the answer: key, code and qualifier, two hexadecimal digits each; 0 where the table has none.
-pub fn sense(a: Answer) -> u32
-    ensures { λ r. ⌜ r ≡ senseOf a ⌝ }
+// The sense that goes with an answer's number: key, code and qualifier, two hexadecimal digits each; 0 where the table has none.
+pub fn sense_numbered(number: u64) -> u32
+    ensures { λ r. ⌜ r ≡ senseNumbered number ⌝ }
 {
-    match a {
-        Answer::Operation => 0x05_20_00,
-        Answer::Field => 0x05_24_00,
-        Answer::Address => 0x05_21_00,
-        Answer::Guard(_, _) => 0x0B_10_01,
-        Answer::Application(_, _) => 0x0B_10_02,
-        Answer::Reference(_, _) => 0x0B_10_03,
-        Answer::Parameter => 0x05_26_00,
-        Answer::Good => 0,
-        Answer::Description => 0,
-        Answer::Segment => 0,
-        Answer::CommandLength => 0,
-        Answer::BufferLength => 0,
-        Answer::Stripe => 0,
-        Answer::Listing => 0,
-        Answer::Size => 0,
+    match number {
+        5 => 0x05_20_00,
+        6 => 0x05_24_00,
+        7 => 0x05_21_00,
+        8 => 0x0B_10_01,
+        9 => 0x0B_10_02,
+        10 => 0x0B_10_03,
+        12 => 0x05_26_00,
+        _ => 0,
     }
 }

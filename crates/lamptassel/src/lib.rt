@@ -1,7 +1,162 @@
 // What a C server links. Each function takes numbers and byte slices, and answers every input.
 ghost use mathlib.Core.Path.{_≡_};
 ghost use Rattle.guard.specs.Guard.{guard};
+ghost use Rattle.answer.specs.Answer.{senseNumbered};
+ghost use Rattle.transfer.specs.Transfer.{executed};
+ghost use Rattle.format.specs.Choice.{choiceOf};
+ghost use Rattle.format.specs.Fresh.{filledOf};
+ghost use Rattle.stripe.specs.Stripe.{madeOf, restoredOf, mendedOf};
+ghost use Rattle.listing.specs.Listing.{Listed};
+ghost use Rattle.lamptassel.specs.Answers.{described, Executed, Chosen, FillAnswered, StripeAnswered};
 ghost use Rattle.lamptassel.specs.Guards.{GuardsAnswered};
+use segment::Description;
+
+fn described(kind: u64, block: u64, exponent: u64, first: u64, count: u64, ato: u64) -> Description
+    ensures { λ r. ⌜ r ≡ described kind block exponent first count ato ⌝ }
+{
+    Description {
+        kind: kind,
+        block: block,
+        exponent: exponent,
+        first: first,
+        count: count,
+        ato: ato,
+    }
+}
+
+// Executes a command on a segment: READ, WRITE or VERIFY. Hands back the answer's number; the block's address and the
+// interval's place that go with it are put into `address` and `place`.
+#[no_mangle]
+pub extern "C" fn lamptassel_execute(
+    kind: u64,
+    block: u64,
+    exponent: u64,
+    first: u64,
+    count: u64,
+    ato: u64,
+    segment: &mut [u8],
+    command: &[u8],
+    buffer: &mut [u8],
+    address: &mut u64,
+    place: &mut u64,
+) -> u64
+    ensures { λ r. ⌜ Executed (executed (described kind block exponent first count ato) (now (segment .entry)) (now (command .entry)) (now (buffer .entry))) r (now (address .exit)) (now (place .exit)) (now (segment .exit)) (now (buffer .exit)) ⌝ }
+{
+    let d = described(kind, block, exponent, first, count, ato);
+    let a = transfer::execute(d, segment, command, buffer);
+    *address = answer::address(a);
+    *place = answer::place(a);
+    answer::number(a)
+}
+
+// The format choice: the type is put into `kind`.
+#[no_mangle]
+pub extern "C" fn lamptassel_format(
+    spt: u64,
+    protect: u64,
+    fmtpinfo: u64,
+    usage: u64,
+    kind: &mut u64,
+) -> u64
+    ensures { λ r. ⌜ Chosen (choiceOf spt protect fmtpinfo usage) r (now (kind .exit)) ⌝ }
+{
+    let c = format::choose(spt, protect, fmtpinfo, usage);
+    let a = c.answer;
+    *kind = c.kind;
+    answer::number(a)
+}
+
+// Fills a fresh segment.
+#[no_mangle]
+pub extern "C" fn lamptassel_fill(
+    kind: u64,
+    block: u64,
+    exponent: u64,
+    first: u64,
+    count: u64,
+    ato: u64,
+    segment: &mut [u8],
+) -> u64
+    ensures { λ r. ⌜ FillAnswered (filledOf (described kind block exponent first count ato) (now (segment .entry))) r (now (segment .exit)) ⌝ }
+{
+    let d = described(kind, block, exponent, first, count, ato);
+    answer::number(format::fill(d, segment))
+}
+
+// Makes the parity of `k` members in `out`.
+#[no_mangle]
+pub extern "C" fn lamptassel_parity(
+    kind: u64,
+    block: u64,
+    exponent: u64,
+    first: u64,
+    count: u64,
+    ato: u64,
+    k: u64,
+    members: &[u8],
+    out: &mut [u8],
+) -> u64
+    ensures { λ r. ⌜ StripeAnswered (madeOf (described kind block exponent first count ato) k (now (members .entry)) (now (out .entry))) r (now (out .exit)) ⌝ }
+{
+    let d = described(kind, block, exponent, first, count, ato);
+    answer::number(stripe::make(d, k, members, out))
+}
+
+// Rebuilds part `lost` of `k` members and their parity in `out`.
+#[no_mangle]
+pub extern "C" fn lamptassel_rebuild(
+    kind: u64,
+    block: u64,
+    exponent: u64,
+    first: u64,
+    count: u64,
+    ato: u64,
+    k: u64,
+    lost: u64,
+    parts: &[u8],
+    out: &mut [u8],
+) -> u64
+    ensures { λ r. ⌜ StripeAnswered (restoredOf (described kind block exponent first count ato) k lost (now (parts .entry)) (now (out .entry))) r (now (out .exit)) ⌝ }
+{
+    let d = described(kind, block, exponent, first, count, ato);
+    answer::number(stripe::rebuild(d, k, lost, parts, out))
+}
+
+// Corrects `parity` where one member's bytes `old` became `new`.
+#[no_mangle]
+pub extern "C" fn lamptassel_correct(
+    kind: u64,
+    block: u64,
+    exponent: u64,
+    first: u64,
+    count: u64,
+    ato: u64,
+    old: &[u8],
+    new: &[u8],
+    parity: &mut [u8],
+) -> u64
+    ensures { λ r. ⌜ StripeAnswered (mendedOf (described kind block exponent first count ato) (now (old .entry)) (now (new .entry)) (now (parity .entry))) r (now (parity .exit)) ⌝ }
+{
+    let d = described(kind, block, exponent, first, count, ato);
+    answer::number(stripe::correct(d, old, new, parity))
+}
+
+// Writes the listing of a record to `out`: of its bytes, as many as there is room for. Hands back how many bytes the whole
+// listing has.
+#[no_mangle]
+pub extern "C" fn lamptassel_list(input: &[u8], out: &mut [u8]) -> usize
+    ensures { λ r. ⌜ Listed (now (input .entry)) (now (out .entry)) r (now (out .exit)) ⌝ }
+{
+    listing::list(input, out)
+}
+
+// The sense of an answer's number.
+#[no_mangle]
+pub extern "C" fn lamptassel_sense(number: u64) -> u32
+    ensures { λ r. ⌜ r ≡ senseNumbered number ⌝ }
+{
+    answer::sense_numbered(number)
+}
 
 // The guard of `data`, through the table.
 #[no_mangle]

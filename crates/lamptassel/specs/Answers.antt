@@ -1,0 +1,38 @@
+-- "The cabinet's server is written in C; it passes numbers and byte buffers.": what each call answers and leaves behind.
+use Prim.Native.Nat.{ℕ}
+use mathlib.Core.List.{List}
+use mathlib.Core.Path.{_≡_}
+use Rattle.answer.specs.Answer.{numberOf, addressOf, placeOf}
+use Rattle.segment.specs.declared.Description.{Description}
+use Rattle.transfer.specs.Transfer.{Outcome}
+use Rattle.format.specs.declared.Choice.{Choice}
+use Rattle.format.specs.Fresh.{Filled}
+use Rattle.stripe.specs.Stripe.{Striped}
+
+-- "type P, block length B, exponent e, first address W, count N and the bit ATO", in this order
+abbrev pub described : ℕ → ℕ → ℕ → ℕ → ℕ → ℕ → Description
+described p b e w n ato = record { kind = p; block = b; exponent = e; first = w; count = n; ato = ato }
+
+-- a command's answer r, the numbers a and p in the places lent for them, the segment s and the buffer b:
+-- "Numbers 8 to 10 also give the block's address and the interval's place in the transfer, from 0; all others give 0 and 0."
+pub record Executed (o : Outcome) (r a p : ℕ) (s b : List ℕ) : Type 0 where
+  pub answer : r ≡ numberOf (o .answer)
+  pub address : a ≡ addressOf (o .answer)
+  pub place : p ≡ placeOf (o .answer)
+  pub segment : s ≡ o .segment
+  pub buffer : b ≡ o .buffer
+
+-- a format choice's answer r, and the type t in the place lent for it: "Answer 0 comes with the type; a refusal comes with type 0."
+pub record Chosen (c : Choice) (r t : ℕ) : Type 0 where
+  pub answer : r ≡ numberOf (c .answer)
+  pub kind : t ≡ c .kind
+
+-- the answer r to a filling, and the segment s
+pub record FillAnswered (f : Filled) (r : ℕ) (s : List ℕ) : Type 0 where
+  pub answer : r ≡ numberOf (f .answer)
+  pub segment : s ≡ f .segment
+
+-- the answer r to a call on a stripe, and the lent buffer or parity l
+pub record StripeAnswered (x : Striped) (r : ℕ) (l : List ℕ) : Type 0 where
+  pub answer : r ≡ numberOf (x .answer)
+  pub lent : l ≡ x .lent
