@@ -442,8 +442,10 @@ static enum status incident(void) {
         status = broken(c.name);
     bool told = false;
     if (status == DONE) {
-        printf("A segment file of type 1: two blocks of %d bytes, at addresses %d and %d.\n\n", LOT, ADDRESS_A,
-               ADDRESS_B);
+        printf("A segment file of type 1 with two blocks of %d bytes, at addresses %d and %d. Behind each\n"
+               "block stand its fields: the guard, worked out from the data, an application tag, and a\n"
+               "reference tag, which is the block's own address (%d is 00001000 in hexadecimal).\n\n",
+               LOT, ADDRESS_A, ADDRESS_B, ADDRESS_A);
         told = write_lots(&c);
         status = store(&c, ADDRESS_A, 2);
     }

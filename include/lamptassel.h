@@ -9,9 +9,9 @@
  *
  * - A buffer is lent as a pointer and its length in bytes. A pointer may be null where
  *   its length is 0. `address`, `place` and `kind` must never be null.
- * - A buffer behind a const pointer is only read, and may overlap others that are only
- *   read. A buffer behind any other pointer must overlap nothing else that is lent, and
- *   `address` and `place` must be two places. No alignment of bytes is asked for.
+ * - What lies behind a const pointer is only read, and may overlap other buffers that are
+ *   only read. What lies behind any other pointer must overlap nothing else that is lent;
+ *   so `address` and `place` are two places. No alignment of buffers is asked for.
  * - Any answer but LAMPTASSEL_GOOD leaves every lent byte as it was. Only `*address`,
  *   `*place` and `*kind` are written with every answer.
  * - Nothing is kept after the call: no allocation, no global state, no lock. Any number

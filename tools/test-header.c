@@ -1,6 +1,7 @@
 /* The header as C11 and C++17 read it, against the archive: types, widths, constants, empty buffers, each answer.
    No header but its own is included, so that the kit's compiler, which has no C library's, compiles it too. */
 #include "lamptassel.h"
+#include "lamptassel.h"
 
 #ifdef __cplusplus
 #define ALWAYS(condition) static_assert(condition, #condition)
@@ -223,6 +224,7 @@ static void stripes(void) {
     memset(parts, 0x55, 16);
     CHECK(rebuild(TOLD(&OF_ONE_BLOCK), 2, 0, parts, 48, out, 16) == LAMPTASSEL_GOOD && memcmp(out, M, 16) == 0);
     memcpy(out, PARITY, 16);
+    CHECK(correct(TOLD(&OF_ONE_BLOCK), M, 16, M, 16, out, 16) == LAMPTASSEL_GOOD && memcmp(out, PARITY, 16) == 0);
     CHECK(correct(TOLD(&OF_ONE_BLOCK), M, 16, M + 16, 16, out, 16) == LAMPTASSEL_GOOD);
     CHECK(out[7] == 0 && memcmp(out, out + 1, 15) == 0);
 }
