@@ -52,3 +52,6 @@ uninstall:
 	    "$(place)/lib/pkgconfig/lamptassel.pc"
 
 .PHONY: all incident check install uninstall
+
+# Two runs of rt would write the same target folder.
+.NOTPARALLEL:
