@@ -1,0 +1,4 @@
+pub mod Runs
+pub mod Filled
+pub mod Codes
+pub mod Demands

@@ -1,0 +1,239 @@
+/*
+ * Lamptassel: judges and moves protected disk blocks.
+ *
+ * For C11 and C++17 on x86-64 Linux; link with -llamptassel. "Document 01" below is
+ * "Blocks, commands and answers of the cabinet", whose words and numbers are used here.
+ *
+ * Every function answers every input: a value out of range is refused, never cut, and
+ * never a fault of the program. What holds for all of them:
+ *
+ * - A buffer is lent as a pointer and its length in bytes. A pointer may be null where
+ *   its length is 0. `address`, `place` and `kind` must never be null.
+ * - What lies behind a const pointer is only read, and may overlap other buffers that are
+ *   only read. What lies behind any other pointer must overlap nothing else that is lent;
+ *   so `address` and `place` are two places. No alignment of buffers is asked for.
+ * - Any answer but LAMPTASSEL_GOOD leaves every lent byte as it was. Only `*address`,
+ *   `*place` and `*kind` are written with every answer.
+ * - Nothing is kept after the call: no allocation, no global state, no lock. Any number
+ *   of threads may call at once, as long as nobody else touches a buffer during the call
+ *   that writes it, or writes one during a call that reads it.
+ *
+ * A segment is told by six numbers, in this order:
+ *
+ *   kind      P, its type of protection: 0 (none), 1, 2 or 3
+ *   block     B, the bytes of user data in a block: 8 to 4,096, a multiple of 8
+ *   exponent  e, 0 to 3: a block has n = 2^e intervals; 0 for types 0 and 1
+ *   first     W, the address of its first block; W + N is at most 2^63
+ *   count     N, the number of its blocks: 1 to 65,536
+ *   ato       ATO, 0 or 1: whether application tags belong to the host
+ *
+ * For types 1 to 3 each interval of B / n data bytes is followed by its fields, eight
+ * bytes: guard (2), application tag (2), reference tag (4), all big-endian. A stored
+ * block has S = B + 8n bytes, for type 0 S = B; a segment has exactly N * S. Numbers that
+ * describe no segment are refused with LAMPTASSEL_DESCRIPTION.
+ */
+#ifndef LAMPTASSEL_H
+#define LAMPTASSEL_H
+
+#include <stddef.h>
+#include <stdint.h>
+
+#ifdef __cplusplus
+extern "C" {
+#endif
+
+/* The answers. 8 to 10 come with the address of the block and the place of the interval. */
+enum lamptassel_answer {
+    LAMPTASSEL_GOOD = 0,
+    LAMPTASSEL_DESCRIPTION = 1,    /* description bad */
+    LAMPTASSEL_SEGMENT_LENGTH = 2, /* segment length wrong */
+    LAMPTASSEL_COMMAND_LENGTH = 3, /* command length wrong */
+    LAMPTASSEL_BUFFER_LENGTH = 4,  /* buffer length wrong */
+    LAMPTASSEL_OPERATION = 5,      /* operation invalid */
+    LAMPTASSEL_FIELD = 6,          /* field in command invalid */
+    LAMPTASSEL_ADDRESS = 7,        /* address out of range */
+    LAMPTASSEL_GUARD = 8,          /* guard check failed */
+    LAMPTASSEL_APPLICATION = 9,    /* application check failed */
+    LAMPTASSEL_REFERENCE = 10,     /* reference check failed */
+    LAMPTASSEL_STRIPE = 11,        /* stripe shape bad */
+    LAMPTASSEL_PARAMETER = 12,     /* field in parameter list invalid */
+    LAMPTASSEL_LISTING = 13,       /* listing record bad; only ever printed by lamptassel_list */
+    LAMPTASSEL_SIZE = 14           /* transfer above 4,294,967,295 bytes; no segment is so large */
+};
+
+/* The senses, as lamptassel_sense gives them; the other answers have none. */
+enum lamptassel_sense_of_answer {
+    LAMPTASSEL_SENSE_OPERATION = 0x052000,
+    LAMPTASSEL_SENSE_FIELD = 0x052400,
+    LAMPTASSEL_SENSE_ADDRESS = 0x052100,
+    LAMPTASSEL_SENSE_GUARD = 0x0B1001,
+    LAMPTASSEL_SENSE_APPLICATION = 0x0B1002,
+    LAMPTASSEL_SENSE_REFERENCE = 0x0B1003,
+    LAMPTASSEL_SENSE_PARAMETER = 0x052600
+};
+
+/* The parts of a sense. */
+#define LAMPTASSEL_SENSE_KEY(sense) ((sense) >> 16 & 0xFF)
+#define LAMPTASSEL_SENSE_CODE(sense) ((sense) >> 8 & 0xFF)
+#define LAMPTASSEL_SENSE_QUALIFIER(sense) ((sense) & 0xFF)
+
+/*
+ * Executes one command on a segment: READ, WRITE or VERIFY of 10, 12, 16 or 32 bytes.
+ *
+ *   kind .. ato       the segment's six numbers
+ *   segment           its stored blocks, N * S bytes
+ *   command           the command as it came, byte 0 first
+ *   buffer            the transfer's blocks: for a WRITE they come from here, a READ puts
+ *                     them here. With T the command's length in blocks: T * B bytes with
+ *                     protect code 000 (user data alone), T * S with any other (data and
+ *                     fields as stored), 0 for a VERIFY
+ *   address, place    the address of the block and the place of the interval in the
+ *                     transfer, counted from 0, where the answer is 8, 9 or 10; 0 and 0
+ *                     with every other answer
+ *
+ * All of the transfer is judged before the first byte moves. A READ and a VERIFY never
+ * change the segment, a WRITE never the buffer; a good WRITE overwrites the transfer's own
+ * blocks of the segment and no other.
+ *
+ * Returns
+ *   0   good
+ *   1   the six numbers describe no segment
+ *   2   segment_length is not N * S
+ *   3   the command is empty, or not as long as its operation asks
+ *   4   buffer_length is not the one told above
+ *   5   the operation is not served, or not on this type of segment
+ *   6   a field of the command is invalid: its protect code (110, 111; for type 0 any but
+ *       000), the byte-check bits of a VERIFY, or byte 7 of 32
+ *   7   the transfer reaches outside the segment, or a T of 0 starts there
+ *   8, 9, 10  guard, application tag or reference tag of an interval is not as expected:
+ *       in the first such interval, the first of these
+ * Where several apply: 1, then 2, then those of the command's own bytes (3, 5, 6, in the
+ * order of document 01), then 7, then 4, then 8 to 10.
+ */
+uint64_t lamptassel_execute(uint64_t kind, uint64_t block, uint64_t exponent, uint64_t first, uint64_t count,
+                            uint64_t ato, uint8_t *segment, size_t segment_length, const uint8_t *command,
+                            size_t command_length, uint8_t *buffer, size_t buffer_length, uint64_t *address,
+                            uint64_t *place);
+
+/*
+ * Chooses the type of a segment from a format command and what stands behind it.
+ *
+ *   spt       SPT, the types that the unit supports: 0 to 7
+ *   protect   PROTECT, whether it supports any: 0 or 1
+ *   fmtpinfo  FMTPINFO, the format's wish: 0 to 3
+ *   usage     the protection field usage of the parameter list: 0 to 7
+ *   kind      the type, 0 to 3, with answer 0; 0 with every other answer
+ *
+ * Returns 0; 6 for a number out of range or a wish that the unit does not support;
+ * 12 for a usage that does not go with the wish.
+ */
+uint64_t lamptassel_format(uint64_t spt, uint64_t protect, uint64_t fmtpinfo, uint64_t usage, uint64_t *kind);
+
+/*
+ * Fills a fresh segment: all data bytes 00h, all field bytes FFh, so that every block has
+ * the escape and is not checked until it is written.
+ *
+ *   kind .. ato  the segment's six numbers
+ *   segment      room for its stored blocks, N * S bytes
+ *
+ * Returns 0; 1 if the six numbers describe no segment; 2 if segment_length is not N * S.
+ */
+uint64_t lamptassel_fill(uint64_t kind, uint64_t block, uint64_t exponent, uint64_t first, uint64_t count,
+                         uint64_t ato, uint8_t *segment, size_t segment_length);
+
+/*
+ * Stripes: k segments of one description of type 1 to 3, the members, and their parity,
+ * which is the exclusive or of their stored bytes, fields included. A part, member or
+ * parity, has N * S bytes. Nothing is judged.
+ *
+ * All three return 0; 1 if the six numbers describe no segment; 11 for type 0, a k outside
+ * 1 to 16, a lost number above k, or a length that is not the one told below.
+ */
+
+/*
+ * Makes the parity.
+ *
+ *   kind .. ato  the six numbers of each member
+ *   k            the number of members
+ *   members      the members end to end, k * N * S bytes
+ *   out          where the parity goes, N * S bytes; what it held does not matter
+ */
+uint64_t lamptassel_parity(uint64_t kind, uint64_t block, uint64_t exponent, uint64_t first, uint64_t count,
+                           uint64_t ato, uint64_t k, const uint8_t *members, size_t members_length, uint8_t *out,
+                           size_t out_length);
+
+/*
+ * Rebuilds a lost part from the others.
+ *
+ *   kind .. ato  the six numbers of each member
+ *   k            the number of members
+ *   lost         the lost part's number: 0 to k - 1 for a member, k for the parity
+ *   parts        the k members and then the parity, end to end, (k + 1) * N * S bytes; the
+ *                lost one's bytes are not used
+ *   out          where the lost part goes, N * S bytes; what it held does not matter
+ */
+uint64_t lamptassel_rebuild(uint64_t kind, uint64_t block, uint64_t exponent, uint64_t first, uint64_t count,
+                            uint64_t ato, uint64_t k, uint64_t lost, const uint8_t *parts, size_t parts_length,
+                            uint8_t *out, size_t out_length);
+
+/*
+ * Corrects the parity after one member has changed, without the other members.
+ *
+ *   kind .. ato  the six numbers of each member
+ *   old          the member's bytes before, N * S
+ *   fresh        its bytes after, N * S
+ *   parity       the parity that went with the old ones, N * S bytes; becomes that of the
+ *                fresh ones
+ */
+uint64_t lamptassel_correct(uint64_t kind, uint64_t block, uint64_t exponent, uint64_t first, uint64_t count,
+                            uint64_t ato, const uint8_t *old, size_t old_length, const uint8_t *fresh,
+                            size_t fresh_length, uint8_t *parity, size_t parity_length);
+
+/*
+ * Returns the guard of an interval's data: the remainder of the data times x^16, divided
+ * modulo 2 by 18BB7h; no initial value, no complement. That of no bytes is 0.
+ */
+uint16_t lamptassel_guard(const uint8_t *data, size_t length);
+
+/* Returns the same number, worked out bit by bit: slower, for those who want a second way. */
+uint16_t lamptassel_guard_by_division(const uint8_t *data, size_t length);
+
+/*
+ * The guards of many intervals in one call, which for short intervals is faster than one
+ * call for each.
+ *
+ *   data  the data of the intervals end to end, without fields
+ *   size  the bytes of one interval, at least 1; length is a multiple of it
+ *   out   where the guards go, two bytes for each interval, big-endian: exactly so many
+ *
+ * Returns 0; 4 if the three sizes do not go together so.
+ */
+uint64_t lamptassel_guards(const uint8_t *data, size_t length, size_t size, uint8_t *out, size_t out_length);
+
+/*
+ * Writes the listing of a record: one line for each interval of its segment, with its
+ * fields and whether they are right, between a header and the totals; or one line,
+ * "refused 13", "refused 1" or "refused 2", for a record that is none. Each line ends with a
+ * line feed; there is no zero byte at the end.
+ *
+ *   input  the whole record: its length L (4 bytes, at most 65,532), then L bytes: version 1,
+ *          P, e (one byte each), B (2), W (8), N (2), all big-endian, and the segment
+ *   out    where the text goes; if it is too short for the listing it takes the first bytes
+ *
+ * Returns the length of the whole listing, at most 524,288, whatever fits into out. With
+ * out_length 0 it only counts.
+ */
+size_t lamptassel_list(const uint8_t *input, size_t input_length, uint8_t *out, size_t out_length);
+
+/*
+ * Returns the sense of an answer's number: sense key, additional sense code and its
+ * qualifier, two hexadecimal digits each (05/20/00 is 0x052000); 0 for an answer without
+ * one and for every number that is no answer.
+ */
+uint32_t lamptassel_sense(uint64_t number);
+
+#ifdef __cplusplus
+}
+#endif
+
+#endif

@@ -1,0 +1,312 @@
+/* The header as C11 and C++17 read it, against the archive: types, widths, constants, empty buffers, each answer.
+   No header but its own is included, so that the kit's compiler, which has no C library's, compiles it too. */
+#include "lamptassel.h"
+#include "lamptassel.h"
+
+#ifdef __cplusplus
+#define ALWAYS(condition) static_assert(condition, #condition)
+extern "C" {
+#else
+#define ALWAYS(condition) _Static_assert(condition, #condition)
+#endif
+int printf(const char *format, ...);
+int memcmp(const void *one, const void *other, size_t length);
+void *memcpy(void *to, const void *from, size_t length);
+void *memset(void *to, int byte, size_t length);
+#ifdef __cplusplus
+}
+#endif
+
+#define DESCRIPTION uint64_t, uint64_t, uint64_t, uint64_t, uint64_t, uint64_t
+#define BEYOND_32_BITS (UINT64_C(1) << 32)
+#define ENTRIES(list) (sizeof(list) / sizeof((list)[0]))
+
+ALWAYS(sizeof(size_t) == 8);
+ALWAYS(sizeof(lamptassel_guard(NULL, 0)) == 2);
+ALWAYS(sizeof(lamptassel_guard_by_division(NULL, 0)) == 2);
+ALWAYS(sizeof(lamptassel_sense(0)) == 4);
+ALWAYS(sizeof(lamptassel_list(NULL, 0, NULL, 0)) == 8);
+ALWAYS(LAMPTASSEL_SENSE_KEY(LAMPTASSEL_SENSE_REFERENCE) == 0x0B);
+ALWAYS(LAMPTASSEL_SENSE_CODE(LAMPTASSEL_SENSE_REFERENCE) == 0x10);
+ALWAYS(LAMPTASSEL_SENSE_QUALIFIER(LAMPTASSEL_SENSE_REFERENCE) == 0x03);
+
+/* Each function through a pointer of its own type, so that a declaration of another type does not compile. */
+static uint64_t (*const execute)(DESCRIPTION, uint8_t *, size_t, const uint8_t *, size_t, uint8_t *, size_t, uint64_t *,
+                                 uint64_t *) = lamptassel_execute;
+static uint64_t (*const format)(uint64_t, uint64_t, uint64_t, uint64_t, uint64_t *) = lamptassel_format;
+static uint64_t (*const fill)(DESCRIPTION, uint8_t *, size_t) = lamptassel_fill;
+static uint64_t (*const parity)(DESCRIPTION, uint64_t, const uint8_t *, size_t, uint8_t *, size_t) = lamptassel_parity;
+static uint64_t (*const rebuild)(DESCRIPTION, uint64_t, uint64_t, const uint8_t *, size_t, uint8_t *,
+                                 size_t) = lamptassel_rebuild;
+static uint64_t (*const correct)(DESCRIPTION, const uint8_t *, size_t, const uint8_t *, size_t, uint8_t *,
+                                 size_t) = lamptassel_correct;
+static uint16_t (*const guard)(const uint8_t *, size_t) = lamptassel_guard;
+static uint16_t (*const guard_by_division)(const uint8_t *, size_t) = lamptassel_guard_by_division;
+static uint64_t (*const guards)(const uint8_t *, size_t, size_t, uint8_t *, size_t) = lamptassel_guards;
+static size_t (*const list)(const uint8_t *, size_t, uint8_t *, size_t) = lamptassel_list;
+static uint32_t (*const sense)(uint64_t) = lamptassel_sense;
+
+/* Document 01's table. */
+static const struct {
+    uint64_t constant, number;
+    uint32_t sense_constant, sense;
+} ANSWERS[] = {
+    {LAMPTASSEL_GOOD, 0, 0, 0},
+    {LAMPTASSEL_DESCRIPTION, 1, 0, 0},
+    {LAMPTASSEL_SEGMENT_LENGTH, 2, 0, 0},
+    {LAMPTASSEL_COMMAND_LENGTH, 3, 0, 0},
+    {LAMPTASSEL_BUFFER_LENGTH, 4, 0, 0},
+    {LAMPTASSEL_OPERATION, 5, LAMPTASSEL_SENSE_OPERATION, 0x052000},
+    {LAMPTASSEL_FIELD, 6, LAMPTASSEL_SENSE_FIELD, 0x052400},
+    {LAMPTASSEL_ADDRESS, 7, LAMPTASSEL_SENSE_ADDRESS, 0x052100},
+    {LAMPTASSEL_GUARD, 8, LAMPTASSEL_SENSE_GUARD, 0x0B1001},
+    {LAMPTASSEL_APPLICATION, 9, LAMPTASSEL_SENSE_APPLICATION, 0x0B1002},
+    {LAMPTASSEL_REFERENCE, 10, LAMPTASSEL_SENSE_REFERENCE, 0x0B1003},
+    {LAMPTASSEL_STRIPE, 11, 0, 0},
+    {LAMPTASSEL_PARAMETER, 12, LAMPTASSEL_SENSE_PARAMETER, 0x052600},
+    {LAMPTASSEL_LISTING, 13, 0, 0},
+    {LAMPTASSEL_SIZE, 14, 0, 0},
+};
+
+/* Segment M of document 01: type 1, block 8, exponent 0, first 7, count 3. */
+static const uint8_t M[48] = {0, 0, 0, 0, 0, 0, 0, 1, 0x8B, 0xB7, 0, 0, 0, 0, 0, 7, 0, 0, 0,    0,    0, 0, 0, 2,
+                              0x9C, 0xD9, 0, 0, 0, 0, 0, 7, 0, 0, 0, 0, 0, 0, 0, 3, 0, 0, 0xFF, 0xFF, 0, 0, 0, 0};
+
+struct description {
+    uint64_t kind, block, exponent, first, count, ato;
+};
+#define TOLD(d) (d)->kind, (d)->block, (d)->exponent, (d)->first, (d)->count, (d)->ato
+
+static const struct description OF_M = {1, 8, 0, 7, 3, 0};
+static const struct description OF_ONE_BLOCK = {1, 8, 0, 7, 1, 0};
+/* Each number of M's description in turn out of range, and in range if it was cut to 32 bits. */
+static const struct description TOO_WIDE[] = {
+    {BEYOND_32_BITS + 1, 8, 0, 7, 3, 0}, {1, BEYOND_32_BITS + 8, 0, 7, 3, 0}, {1, 8, BEYOND_32_BITS, 7, 3, 0},
+    {1, 8, 0, (UINT64_C(1) << 63) + 7, 3, 0}, {1, 8, 0, 7, BEYOND_32_BITS + 3, 0}, {1, 8, 0, 7, 3, BEYOND_32_BITS},
+};
+
+static int faults = 0;
+
+#define CHECK(condition) check(condition, #condition, __LINE__)
+static void check(int holds, const char *condition, int line) {
+    if (!holds) {
+        printf("test-header.c, line %d: not so: %s\n", line, condition);
+        faults++;
+    }
+}
+
+/* What one command on M leaves. */
+struct done {
+    uint64_t number, address, place;
+    int segment_changed, buffer_changed;
+    uint8_t buffer[64];
+};
+
+static struct done on_m(const struct description *d, const uint8_t *command, size_t command_length, const uint8_t *data,
+                        size_t length) {
+    struct done done;
+    uint8_t segment[sizeof M], before[sizeof done.buffer];
+    memcpy(segment, M, sizeof M);
+    memset(before, 0xAA, sizeof before);
+    if (data != NULL)
+        memcpy(before, data, length);
+    memcpy(done.buffer, before, sizeof before);
+    done.address = done.place = UINT64_MAX;
+    done.number = execute(TOLD(d), segment, sizeof segment, command, command_length, done.buffer, length, &done.address,
+                          &done.place);
+    done.segment_changed = memcmp(segment, M, sizeof M) != 0;
+    done.buffer_changed = memcmp(done.buffer, before, sizeof before) != 0;
+    return done;
+}
+
+static void refuses(struct done done, uint64_t number, uint64_t address, uint64_t place) {
+    CHECK(done.number == number);
+    CHECK(done.address == address);
+    CHECK(done.place == place);
+    CHECK(!done.segment_changed && !done.buffer_changed);
+}
+
+static const uint8_t READ_TWO[11] = {0x28, 0x20, 0, 0, 0, 7, 0, 0, 2, 0, 0};
+static const uint8_t READ_UNCHECKED[10] = {0x28, 0x60, 0, 0, 0, 7, 0, 0, 2, 0};
+static const uint8_t READ_NOTHING[10] = {0x28, 0, 0, 0, 0, 10, 0, 0, 0, 0};
+static const uint8_t READ_PAST[10] = {0x28, 0, 0, 0, 0, 10, 0, 0, 1, 0};
+static const uint8_t READ_CODE_110[10] = {0x28, 0xC0, 0, 0, 0, 7, 0, 0, 1, 0};
+static const uint8_t NO_OPERATION[10] = {0};
+static const uint8_t VERIFY_ONE[10] = {0x2F, 0, 0, 0, 0, 7, 0, 0, 1, 0};
+static const uint8_t WRITE_THIRD[10] = {0x2A, 0x20, 0, 0, 0, 9, 0, 0, 1, 0};
+static const uint8_t WRITE_DATA[10] = {0x2A, 0, 0, 0, 0, 9, 0, 0, 1, 0};
+
+static void commands(void) {
+    struct done done = on_m(&OF_M, READ_UNCHECKED, 10, NULL, 32);
+    CHECK(done.number == LAMPTASSEL_GOOD && done.address == 0 && done.place == 0 && !done.segment_changed);
+    CHECK(memcmp(done.buffer, M, 32) == 0);
+    done = on_m(&OF_M, WRITE_DATA, 10, M, 8);
+    CHECK(done.number == LAMPTASSEL_GOOD && done.address == 0 && done.place == 0 && done.segment_changed);
+    CHECK(!done.buffer_changed);
+    CHECK(on_m(&OF_M, VERIFY_ONE, 10, NULL, 0).number == LAMPTASSEL_GOOD);
+    refuses(on_m(&OF_M, READ_TWO, 11, NULL, 32), LAMPTASSEL_COMMAND_LENGTH, 0, 0);
+    refuses(on_m(&OF_M, READ_TWO, 10, NULL, 31), LAMPTASSEL_BUFFER_LENGTH, 0, 0);
+    refuses(on_m(&OF_M, NO_OPERATION, 10, NULL, 0), LAMPTASSEL_OPERATION, 0, 0);
+    refuses(on_m(&OF_M, READ_CODE_110, 10, NULL, 16), LAMPTASSEL_FIELD, 0, 0);
+    refuses(on_m(&OF_M, READ_PAST, 10, NULL, 8), LAMPTASSEL_ADDRESS, 0, 0);
+    refuses(on_m(&OF_M, WRITE_THIRD, 10, M + 32, 16), LAMPTASSEL_GUARD, 9, 0);
+    refuses(on_m(&OF_M, READ_TWO, 10, NULL, 32), LAMPTASSEL_REFERENCE, 8, 1);
+}
+
+/* READ (32), code 001, of M's first two blocks as type 2 with ATO 1: first tag 7, application tag 0001h, mask FFFFh. */
+static void long_command(void) {
+    static const struct description TYPE_2 = {2, 8, 0, 7, 3, 1};
+    static const uint8_t READ_32[32] = {0x7F, 0, 0, 0, 0, 0, 0, 0x18, 0, 9, 0x20, 0, 0, 0,    0,    0,
+                                        0,    0, 0, 7, 0, 0, 0, 7,    0, 1, 0xFF, 0xFF, 0, 0, 0, 2};
+    refuses(on_m(&TYPE_2, READ_32, 32, NULL, 32), LAMPTASSEL_APPLICATION, 7, 0);
+    refuses(on_m(&OF_M, READ_32, 32, NULL, 32), LAMPTASSEL_OPERATION, 0, 0);
+}
+
+/* The address that comes back is not cut either. */
+static void wide_address(void) {
+    static const struct description FAR = {1, 8, 0, (UINT64_C(1) << 40) + 7, 3, 0};
+    static const uint8_t READ_16[16] = {0x88, 0x20, 0, 0, 1, 0, 0, 0, 0, 7, 0, 0, 0, 2, 0, 0};
+    refuses(on_m(&FAR, READ_16, 16, NULL, 32), LAMPTASSEL_REFERENCE, (UINT64_C(1) << 40) + 8, 1);
+}
+
+static void descriptions(void) {
+    uint8_t members[2 * sizeof M], parts[3 * sizeof M], out[sizeof M], before[sizeof M];
+    memset(members, 0x11, sizeof members);
+    memset(parts, 0x22, sizeof parts);
+    memset(out, 0x33, sizeof out);
+    memcpy(before, out, sizeof out);
+    for (size_t i = 0; i < ENTRIES(TOO_WIDE); i++) {
+        const struct description *d = &TOO_WIDE[i];
+        refuses(on_m(d, READ_NOTHING, 10, NULL, 0), LAMPTASSEL_DESCRIPTION, 0, 0);
+        CHECK(fill(TOLD(d), out, sizeof out) == LAMPTASSEL_DESCRIPTION);
+        CHECK(parity(TOLD(d), 2, members, sizeof members, out, sizeof out) == LAMPTASSEL_DESCRIPTION);
+        CHECK(rebuild(TOLD(d), 2, 0, parts, sizeof parts, out, sizeof out) == LAMPTASSEL_DESCRIPTION);
+        CHECK(correct(TOLD(d), members, sizeof M, parts, sizeof M, out, sizeof out) == LAMPTASSEL_DESCRIPTION);
+    }
+    CHECK(memcmp(out, before, sizeof out) == 0);
+}
+
+static void formats(void) {
+    uint64_t kind = UINT64_MAX;
+    CHECK(format(3, 1, 3, 1, &kind) == LAMPTASSEL_GOOD && kind == 3);
+    CHECK(format(1, 1, 3, 1, &kind) == LAMPTASSEL_PARAMETER && kind == 0);
+    CHECK(format(0, 1, 2, 0, &kind) == LAMPTASSEL_GOOD && kind == 1);
+    CHECK(format(0, 1, 1, 0, &kind) == LAMPTASSEL_FIELD && kind == 0);
+    for (int i = 0; i < 4; i++) {
+        kind = UINT64_MAX;
+        CHECK(format(0 + (i == 0) * BEYOND_32_BITS, 1 + (i == 1) * BEYOND_32_BITS, 2 + (i == 2) * BEYOND_32_BITS,
+                     0 + (i == 3) * BEYOND_32_BITS, &kind) == LAMPTASSEL_FIELD);
+        CHECK(kind == 0);
+    }
+}
+
+static void fillings(void) {
+    static const uint8_t FRESH[16] = {0, 0, 0, 0, 0, 0, 0, 0, 0xFF, 0xFF, 0xFF, 0xFF, 0xFF, 0xFF, 0xFF, 0xFF};
+    uint8_t segment[17];
+    memset(segment, 0x55, sizeof segment);
+    CHECK(fill(TOLD(&OF_ONE_BLOCK), segment, 17) == LAMPTASSEL_SEGMENT_LENGTH && segment[0] == 0x55);
+    CHECK(fill(TOLD(&OF_ONE_BLOCK), segment, 16) == LAMPTASSEL_GOOD);
+    CHECK(memcmp(segment, FRESH, 16) == 0 && segment[16] == 0x55);
+}
+
+/* Document 01's stripe: M's first two blocks as members. */
+static void stripes(void) {
+    static const uint8_t PARITY[16] = {0, 0, 0, 0, 0, 0, 0, 3, 0x17, 0x6E, 0, 0, 0, 0, 0, 0};
+    uint8_t parts[48], out[16];
+    memcpy(parts, M, 32);
+    memset(out, 0x55, 16);
+    CHECK(parity(TOLD(&OF_ONE_BLOCK), BEYOND_32_BITS + 2, M, 32, out, 16) == LAMPTASSEL_STRIPE);
+    CHECK(rebuild(TOLD(&OF_ONE_BLOCK), BEYOND_32_BITS + 2, 0, parts, 48, out, 16) == LAMPTASSEL_STRIPE);
+    CHECK(rebuild(TOLD(&OF_ONE_BLOCK), 2, BEYOND_32_BITS, parts, 48, out, 16) == LAMPTASSEL_STRIPE);
+    CHECK(out[0] == 0x55 && memcmp(out, out + 1, 15) == 0);
+    CHECK(parity(TOLD(&OF_ONE_BLOCK), 2, M, 32, out, 16) == LAMPTASSEL_GOOD && memcmp(out, PARITY, 16) == 0);
+    memcpy(parts + 32, PARITY, 16);
+    memset(parts, 0x55, 16);
+    CHECK(rebuild(TOLD(&OF_ONE_BLOCK), 2, 0, parts, 48, out, 16) == LAMPTASSEL_GOOD && memcmp(out, M, 16) == 0);
+    memcpy(out, PARITY, 16);
+    CHECK(correct(TOLD(&OF_ONE_BLOCK), M, 16, M, 16, out, 16) == LAMPTASSEL_GOOD && memcmp(out, PARITY, 16) == 0);
+    CHECK(correct(TOLD(&OF_ONE_BLOCK), M, 16, M + 16, 16, out, 16) == LAMPTASSEL_GOOD);
+    CHECK(out[7] == 0 && memcmp(out, out + 1, 15) == 0);
+}
+
+static void guards_of_document(void) {
+    uint8_t data[64], out[4] = {0x55, 0x55, 0x55, 0x55};
+    static const uint8_t BOTH[4] = {0x02, 0x24, 0xA0, 0xB7};
+    for (int i = 0; i < 32; i++) {
+        data[i] = (uint8_t)i;
+        data[32 + i] = (uint8_t)(255 - i);
+    }
+    CHECK(guard(data, 32) == 0x0224);
+    CHECK(guard_by_division(data + 32, 32) == 0xA0B7);
+    CHECK(guards(data, 64, 32, out, 3) == LAMPTASSEL_BUFFER_LENGTH);
+    CHECK(guards(data, 64, 0, out, 4) == LAMPTASSEL_BUFFER_LENGTH);
+    CHECK(guards(data, 64, BEYOND_32_BITS + 32, out, 4) == LAMPTASSEL_BUFFER_LENGTH);
+    CHECK(out[0] == 0x55 && memcmp(out, out + 1, 3) == 0);
+    CHECK(guards(data, 64, 32, out, 4) == LAMPTASSEL_GOOD && memcmp(out, BOTH, 4) == 0);
+}
+
+static const char TYPE_0_LISTED[] = "lba interval guard app ref state\nintervals 0 faults 0 skipped 0\n";
+
+static void listings(void) {
+    /* One block of type 0. */
+    static const uint8_t RECORD[27] = {0, 0, 0, 23, 1, 0, 0, 0, 8, 0, 0, 0, 0, 0, 0, 0, 7, 0, 1};
+    const size_t whole = sizeof TYPE_0_LISTED - 1;
+    uint8_t out[sizeof TYPE_0_LISTED];
+    memset(out, 0x55, sizeof out);
+    CHECK(list(RECORD, sizeof RECORD, out, 4) == whole && memcmp(out, "lba U", 5) == 0);
+    CHECK(list(RECORD, sizeof RECORD, out, sizeof out) == whole);
+    CHECK(memcmp(out, TYPE_0_LISTED, whole) == 0 && out[whole] == 0x55);
+}
+
+/* Null pointers with length 0. */
+static void empty_buffers(void) {
+    uint8_t bytes[48];
+    uint64_t address = 1, place = 1;
+    memcpy(bytes, M, sizeof bytes);
+    CHECK(execute(TOLD(&OF_M), NULL, 0, READ_NOTHING, 10, NULL, 0, &address, &place) == LAMPTASSEL_SEGMENT_LENGTH);
+    CHECK(execute(TOLD(&OF_M), bytes, 48, NULL, 0, NULL, 0, &address, &place) == LAMPTASSEL_COMMAND_LENGTH);
+    CHECK(execute(TOLD(&OF_M), bytes, 48, READ_TWO, 10, NULL, 0, &address, &place) == LAMPTASSEL_BUFFER_LENGTH);
+    CHECK(execute(TOLD(&OF_M), bytes, 48, READ_NOTHING, 10, NULL, 0, &address, &place) == LAMPTASSEL_GOOD);
+    CHECK(execute(TOLD(&OF_M), bytes, 48, VERIFY_ONE, 10, NULL, 0, &address, &place) == LAMPTASSEL_GOOD);
+    CHECK(fill(TOLD(&OF_M), NULL, 0) == LAMPTASSEL_SEGMENT_LENGTH);
+    CHECK(parity(TOLD(&OF_M), 1, NULL, 0, bytes, 48) == LAMPTASSEL_STRIPE);
+    CHECK(parity(TOLD(&OF_M), 1, M, 48, NULL, 0) == LAMPTASSEL_STRIPE);
+    CHECK(rebuild(TOLD(&OF_ONE_BLOCK), 1, 0, NULL, 0, bytes, 16) == LAMPTASSEL_STRIPE);
+    CHECK(rebuild(TOLD(&OF_ONE_BLOCK), 1, 0, M, 32, NULL, 0) == LAMPTASSEL_STRIPE);
+    CHECK(correct(TOLD(&OF_M), NULL, 0, M, 48, bytes, 48) == LAMPTASSEL_STRIPE);
+    CHECK(correct(TOLD(&OF_M), M, 48, NULL, 0, bytes, 48) == LAMPTASSEL_STRIPE);
+    CHECK(correct(TOLD(&OF_M), M, 48, M, 48, NULL, 0) == LAMPTASSEL_STRIPE);
+    CHECK(guard(NULL, 0) == 0);
+    CHECK(guard_by_division(NULL, 0) == 0);
+    CHECK(guards(NULL, 0, 8, NULL, 0) == LAMPTASSEL_GOOD);
+    CHECK(guards(NULL, 0, 8, bytes, 2) == LAMPTASSEL_BUFFER_LENGTH);
+    CHECK(guards(M, 8, 8, NULL, 0) == LAMPTASSEL_BUFFER_LENGTH);
+    CHECK(memcmp(bytes, M, sizeof bytes) == 0);
+    CHECK(list(NULL, 0, NULL, 0) == 11);
+    CHECK(list(NULL, 0, bytes, 48) == 11 && memcmp(bytes, "refused 13\n", 11) == 0);
+}
+
+static void senses(void) {
+    for (size_t i = 0; i < ENTRIES(ANSWERS); i++) {
+        CHECK(ANSWERS[i].constant == ANSWERS[i].number);
+        CHECK(ANSWERS[i].sense_constant == ANSWERS[i].sense);
+        CHECK(sense(ANSWERS[i].number) == ANSWERS[i].sense);
+        CHECK(sense(ANSWERS[i].number + BEYOND_32_BITS) == 0);
+    }
+    CHECK(sense(15) == 0);
+}
+
+int main(void) {
+    commands();
+    long_command();
+    wide_address();
+    descriptions();
+    formats();
+    fillings();
+    stripes();
+    guards_of_document();
+    listings();
+    empty_buffers();
+    senses();
+    return faults != 0;
+}
