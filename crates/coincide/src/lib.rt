@@ -1,0 +1,1 @@
+// The theorems are in proofs/Demands.antt; no code stands on them.
