@@ -42,7 +42,7 @@ fn lines(operation: Operation) -> Vec<Line> {
                 lines.push(Line {
                     name: format!("{code:03b} {block:5} {exponent}"),
                     units: count,
-                    limit: Some(limit),
+                    limit,
                     job: Job::new(block, exponent, count, request),
                 });
             }

@@ -55,7 +55,7 @@ fn lines<const N: usize>(
             lines.push(Line {
                 name: format!("{operation:6} {size:5}"),
                 units,
-                limit: Some(LIMIT),
+                limit: LIMIT,
                 job: Job::new(LENGTH, 0, count, request),
             });
         }

@@ -18,7 +18,7 @@ const SIZES: [Size; 4] = [
     Size(4_096, Some(1.25), Some(1.25)),
     Size(512, Some(1.25), Some(1.25)),
     Size(64, None, None),
-    Size(8, Some(2.00), None),
+    Size(8, Some(2.00), Some(2.00)),
 ];
 
 /// How many blocks are also put to both long divisions.

@@ -35,7 +35,6 @@ impl Display for Operation {
 
 /// What a command asks: an operation with a protect code, and the transfer's
 /// blocks, counted from the segment's first.
-#[derive(Clone)]
 pub struct Request {
     pub operation: Operation,
     pub code: u8,
@@ -101,7 +100,7 @@ impl Job {
                 (buffer, 0..brought, segment.len(), place)
             }
         };
-        Job {
+        let job = Job {
             command: command(&desc, &request),
             desc,
             request,
@@ -109,7 +108,10 @@ impl Job {
             moved,
             changed,
             written,
-        }
+        };
+        let (results, _) = job.once(reference::execute);
+        assert!(results.ends_with(&[0; OUTCOME]), "the request is good");
+        job
     }
 
     /// Executes the command so many times; the results are what it changes, then
@@ -159,7 +161,7 @@ pub struct Line {
     pub name: String,
     /// The units that one command does.
     pub units: usize,
-    pub limit: Option<f64>,
+    pub limit: f64,
     pub job: Job,
 }
 
@@ -175,7 +177,7 @@ impl Line {
             count: times * self.units,
             results: job.changed + OUTCOME,
             written: job.written.clone(),
-            limit: self.limit,
+            limit: Some(self.limit),
             ours: pass(archive::execute),
             rust: pass(reference::execute),
         }
@@ -197,11 +199,12 @@ impl Jobs<'_> {
             writeln!(out, "{}, {}: results differ", self.title, line.name)?;
             verdict.differ = true;
         }
+        let cases = self.lines.iter().map(|line| line.case(options.blocks));
         let table = Table {
             title: self.title.clone(),
             names: self.names,
             unit: self.unit,
-            cases: self.lines.iter().map(|l| l.case(options.blocks)).collect(),
+            cases: cases.collect(),
         };
         Ok(verdict.and(measure(out, options.rounds, table)?))
     }

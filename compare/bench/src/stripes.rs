@@ -76,21 +76,13 @@ impl<'a> Stripe<'a> {
     fn cases(&self) -> Vec<Case<'_>> {
         let parity = MEMBERS.map(|k| {
             let ways: [Parity; 2] = [archive::parity, reference::parity];
-            self.case(
-                "parity",
-                k,
-                0..self.long,
-                ways.map(|way| self.parity(way, k)),
-            )
+            let makings = ways.map(|way| self.parity(way, k));
+            self.case("parity", k, 0..self.long, makings)
         });
         let rebuild = MEMBERS.map(|k| {
             let ways: [Rebuild; 2] = [archive::rebuild, reference::rebuild];
-            self.case(
-                "rebuild",
-                k,
-                0..self.long,
-                ways.map(|way| self.rebuild(way, k)),
-            )
+            let makings = ways.map(|way| self.rebuild(way, k));
+            self.case("rebuild", k, 0..self.long, makings)
         });
         let ways: [Correct; 2] = [archive::correct, reference::correct];
         let correct = self.case("correct", 2, 0..0, ways.map(|way| self.correct(way)));
