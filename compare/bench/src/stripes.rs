@@ -30,7 +30,7 @@ pub fn run(options: &Options, out: Output<'_>) -> io::Result<Verdict> {
     let parts = &noise((members + 1) * blocks * STORED)[..];
     let stripes = BLOCKS.map(|count| Stripe::new(options.blocks, count, parts));
     let table = Table {
-        title: format!("stripes: blocks of {BLOCK} bytes, cached and not"),
+        title: format!("stripes: blocks of {BLOCK} bytes, members small and large"),
         names: "parts blocks",
         unit: "block",
         cases: stripes.iter().flat_map(Stripe::cases).collect(),
