@@ -4,14 +4,9 @@ use std::hint::black_box;
 use std::io;
 
 use crate::archive;
+use crate::bytes::{BLOCK, RUN, noise};
 use crate::options::Options;
-use crate::table::{Case, Output, Verdict, measure};
-
-/// The bytes of a block.
-const BLOCK: usize = 4_096;
-
-/// The bytes that one call takes where it takes a run of intervals.
-const RUN: usize = 64 * BLOCK;
+use crate::table::{Case, Output, Table, Verdict, measure};
 
 /// The bytes of a guard.
 const GUARD: usize = 2;
@@ -23,7 +18,7 @@ const SIZES: [Size; 4] = [
     Size(4_096, Some(1.25), Some(1.25)),
     Size(512, Some(1.25), Some(1.25)),
     Size(64, None, None),
-    Size(8, Some(2.00), None),
+    Size(8, Some(2.00), Some(2.00)),
 ];
 
 /// How many blocks are also put to both long divisions.
@@ -47,20 +42,33 @@ pub fn run(options: &Options, out: Output<'_>) -> io::Result<Verdict> {
             verdict.differ = true;
         }
     }
-    let title = format!(
-        "guard: {} blocks of {BLOCK} bytes, a call for each run of {RUN} bytes",
-        options.blocks
-    );
-    let cases = SIZES.map(|Size(size, limit, _)| case(data, size, limit, our_runs, rust_runs));
-    let runs = measure(out, &title, "interval", options.rounds, cases.into())?;
-    let title = format!(
-        "guard: {} blocks of {BLOCK} bytes, a call for each interval, each of ours \
-         copying the table of 512 bytes",
-        options.blocks
-    );
-    let cases = SIZES.map(|Size(size, _, limit)| case(data, size, limit, our_calls, rust_calls));
-    let calls = measure(out, &title, "interval", options.rounds, cases.into())?;
-    Ok(verdict.and(runs).and(calls))
+    let runs = Table {
+        title: format!(
+            "guard: {} blocks of {BLOCK} bytes, a call for each run of {RUN} bytes",
+            options.blocks
+        ),
+        names: "bytes",
+        unit: "interval",
+        cases: SIZES
+            .map(|Size(size, limit, _)| case(data, size, limit, our_runs, rust_runs))
+            .into(),
+    };
+    let calls = Table {
+        title: format!(
+            "guard: {} blocks of {BLOCK} bytes, a call for each interval, each of ours \
+             copying the table of 512 bytes",
+            options.blocks
+        ),
+        names: "bytes",
+        unit: "interval",
+        cases: SIZES
+            .map(|Size(size, _, limit)| case(data, size, limit, our_calls, rust_calls))
+            .into(),
+    };
+    for table in [runs, calls] {
+        verdict = verdict.and(measure(out, options.rounds, table)?);
+    }
+    Ok(verdict)
 }
 
 /// Puts the guards of the data's intervals of a size into a list of bytes.
@@ -69,9 +77,10 @@ type Guards = fn(&[u8], usize, &mut [u8]);
 fn case(data: &[u8], size: usize, limit: Option<f64>, ours: Guards, rust: Guards) -> Case<'_> {
     let count = data.len() / size;
     Case {
-        bytes: size,
+        name: size.to_string(),
         count,
         results: count * GUARD,
+        written: 0..count * GUARD,
         limit,
         ours: Box::new(move |results| ours(data, black_box(size), results)),
         rust: Box::new(move |results| rust(data, black_box(size), results)),
@@ -160,17 +169,4 @@ fn refused(lengths: Lengths) -> bool {
     let before = vec![0xA5; lengths.out];
     let mut out = before.clone();
     archive::guards(&data, lengths.size, &mut out) == 4 && out == before
-}
-
-/// Bytes that look random, the same on every run.
-fn noise(length: usize) -> Vec<u8> {
-    let mut bytes = vec![0; length];
-    let mut state = 0x2545_F491_4F6C_DD1Du64;
-    for word in bytes.chunks_exact_mut(8) {
-        state ^= state << 13;
-        state ^= state >> 7;
-        state ^= state << 17;
-        word.copy_from_slice(&state.to_le_bytes());
-    }
-    bytes
 }

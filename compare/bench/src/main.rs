@@ -4,8 +4,13 @@
 //! limit; 2 for arguments it does not know; 3 if its output cannot be written.
 
 mod archive;
+mod bytes;
+mod commands;
+mod growth;
 mod guard;
+mod job;
 mod options;
+mod stripes;
 mod table;
 
 use std::fmt::Display;
@@ -21,7 +26,12 @@ type Table = (
     fn(&Options, Output<'_>) -> io::Result<Verdict>,
 );
 
-const TABLES: [Table; 1] = [("guard", guard::run)];
+const TABLES: [Table; 4] = [
+    ("guard", guard::run),
+    ("commands", commands::run),
+    ("growth", growth::run),
+    ("stripes", stripes::run),
+];
 
 fn main() -> ExitCode {
     let options = match Options::read(std::env::args().skip(1)).and_then(known) {

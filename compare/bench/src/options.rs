@@ -4,8 +4,8 @@ pub const USAGE: &str = "\
 usage: bench [NAME..] [--blocks COUNT] [--rounds COUNT] [--strict]
 
 NAME is a table to measure; all of them if none is named.
---blocks COUNT  blocks of 4,096 bytes in a pass (65536)
---rounds COUNT  passes of each kind, of which the best counts (5)
+--blocks COUNT  blocks of 4,096 bytes that a pass goes through, at least one call (256)
+--rounds COUNT  passes of each kind, of which the best counts (60)
 --strict        a ratio over its limit is a failure";
 
 pub struct Options {
@@ -20,8 +20,8 @@ impl Options {
     pub fn read(arguments: impl IntoIterator<Item = String>) -> Result<Self, String> {
         let mut options = Options {
             names: Vec::new(),
-            blocks: 65_536,
-            rounds: 5,
+            blocks: 256,
+            rounds: 60,
             strict: false,
         };
         let mut arguments = arguments.into_iter();

@@ -1,23 +1,34 @@
 //! Measuring two ways of doing one thing, and the table of what came out.
 
 use std::io::{self, Write};
+use std::ops::Range;
 use std::time::{Duration, Instant};
 
 /// Where tables are printed.
 pub type Output<'a> = &'a mut dyn Write;
 
-/// Does some work and fills a list of bytes with its results.
+/// Does some work and leaves its results in a list of bytes.
 pub type Pass<'a> = Box<dyn FnMut(&mut [u8]) + 'a>;
+
+pub struct Table<'a> {
+    pub title: String,
+    /// The heading of the names.
+    pub names: &'a str,
+    /// What the times are given for.
+    pub unit: &'a str,
+    pub cases: Vec<Case<'a>>,
+}
 
 /// One line of a table: a pass done by the archive and the same pass done by the
 /// reference.
 pub struct Case<'a> {
-    /// The size that names the line.
-    pub bytes: usize,
+    pub name: String,
     /// How many units one pass does.
     pub count: usize,
-    /// How many bytes of results one pass writes.
+    /// How many bytes of results one pass leaves.
     pub results: usize,
+    /// Those of them that it must write; the others are zero before it.
+    pub written: Range<usize>,
     /// The greatest ratio ours/Rust that is wanted.
     pub limit: Option<f64>,
     pub ours: Pass<'a>,
@@ -49,30 +60,42 @@ struct Best {
     differ: bool,
 }
 
-/// Measures all cases in interleaved rounds and prints their table.
-pub fn measure(
-    out: Output<'_>,
-    title: &str,
-    unit: &str,
-    rounds: usize,
-    mut cases: Vec<Case<'_>>,
-) -> io::Result<Verdict> {
-    let mut bests: Vec<Best> = cases
-        .iter()
-        .map(|_| Best {
-            ours: Duration::MAX,
-            rust: Duration::MAX,
-            differ: false,
-        })
-        .collect();
+impl Best {
+    const NONE: Best = Best {
+        ours: Duration::MAX,
+        rust: Duration::MAX,
+        differ: false,
+    };
+
+    fn ratio(&self) -> f64 {
+        self.ours.as_secs_f64() / self.rust.as_secs_f64()
+    }
+}
+
+/// Measures all cases of a table in interleaved rounds and prints it.
+pub fn measure(out: Output<'_>, rounds: usize, mut table: Table<'_>) -> io::Result<Verdict> {
+    let bests = race(rounds, &mut table.cases);
+    writeln!(out, "{}, best of {rounds}", table.title)?;
+    print(out, &table, &bests)?;
+    let verdicts = table.cases.iter().zip(&bests).map(|(case, best)| Verdict {
+        differ: best.differ,
+        over: over(case, best),
+    });
+    Ok(verdicts.fold(Verdict::default(), Verdict::and))
+}
+
+fn race(rounds: usize, cases: &mut [Case<'_>]) -> Vec<Best> {
+    let mut bests: Vec<Best> = cases.iter().map(|_| Best::NONE).collect();
     let longest = cases.iter().map(|case| case.results).max().unwrap_or(0);
     let (mut ours, mut rust) = (vec![0; longest], vec![0; longest]);
     for round in 0..rounds {
         for (case, best) in cases.iter_mut().zip(&mut bests) {
             let (ours, rust) = (&mut ours[..case.results], &mut rust[..case.results]);
+            ours.fill(0);
+            rust.fill(0);
             // Different from each other, so that what both leave unwritten shows too.
-            ours.fill(0x55);
-            rust.fill(0xAA);
+            ours[case.written.clone()].fill(0x55);
+            rust[case.written.clone()].fill(0xAA);
             // Each way goes first in every other round.
             if round % 2 == 0 {
                 timed(&mut case.ours, ours, &mut best.ours);
@@ -84,38 +107,42 @@ pub fn measure(
             best.differ |= ours != rust;
         }
     }
-
-    writeln!(out, "{title}, best of {rounds}")?;
-    let (ours, rust) = (format!("ours ns/{unit}"), format!("rust ns/{unit}"));
-    writeln!(out, "bytes  {ours}  {rust}  ratio  limit")?;
-    let mut verdict = Verdict::default();
-    for (case, best) in cases.iter().zip(&bests) {
-        let ratio = best.ours.as_secs_f64() / best.rust.as_secs_f64();
-        let over = case.limit.is_some_and(|limit| ratio > limit);
-        writeln!(
-            out,
-            "{:5}  {:w$.2}  {:w$.2}  {ratio:5.2}  {:>5}{}{}",
-            case.bytes,
-            nanoseconds(best.ours, case.count),
-            nanoseconds(best.rust, case.count),
-            case.limit.map_or("-".into(), |limit| format!("{limit:.2}")),
-            if over { "  over" } else { "" },
-            if best.differ { "  DIFFERENT" } else { "" },
-            w = ours.len(),
-        )?;
-        verdict = verdict.and(Verdict {
-            differ: best.differ,
-            over,
-        });
-    }
-    writeln!(out)?;
-    Ok(verdict)
+    bests
 }
 
 fn timed(pass: &mut dyn FnMut(&mut [u8]), results: &mut [u8], best: &mut Duration) {
     let start = Instant::now();
     pass(results);
     *best = start.elapsed().min(*best);
+}
+
+fn print(out: Output<'_>, table: &Table<'_>, bests: &[Best]) -> io::Result<()> {
+    let names = table.cases.iter().map(|case| case.name.len());
+    let width = names.chain([table.names.len()]).max().unwrap_or(0);
+    let (ours, rust) = (
+        format!("ours ns/{}", table.unit),
+        format!("rust ns/{}", table.unit),
+    );
+    writeln!(out, "{:>width$}  {ours}  {rust}  ratio  limit", table.names)?;
+    for (case, best) in table.cases.iter().zip(bests) {
+        writeln!(
+            out,
+            "{:>width$}  {:w$.2}  {:w$.2}  {:5.2}  {:>5}{}{}",
+            case.name,
+            nanoseconds(best.ours, case.count),
+            nanoseconds(best.rust, case.count),
+            best.ratio(),
+            case.limit.map_or("-".into(), |limit| format!("{limit:.2}")),
+            if over(case, best) { "  over" } else { "" },
+            if best.differ { "  DIFFERENT" } else { "" },
+            w = ours.len(),
+        )?;
+    }
+    writeln!(out)
+}
+
+fn over(case: &Case<'_>, best: &Best) -> bool {
+    case.limit.is_some_and(|limit| best.ratio() > limit)
 }
 
 fn nanoseconds(time: Duration, count: usize) -> f64 {

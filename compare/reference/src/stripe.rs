@@ -60,12 +60,12 @@ fn part_length(desc: &Description) -> Result<usize, u64> {
 
 /// Writes the exclusive or of all parts but the one left out.
 fn join(parts: &[u8], part: usize, left_out: Option<usize>, out: &mut [u8]) {
-    let used = parts
+    let mut used = parts
         .chunks_exact(part)
         .enumerate()
         .filter(|&(number, _)| Some(number) != left_out)
         .map(|(_, bytes)| bytes);
-    out.fill(0);
+    out.copy_from_slice(used.next().expect("k is at least 1"));
     for bytes in used {
         for (sum, byte) in out.iter_mut().zip(bytes) {
             *sum ^= byte;

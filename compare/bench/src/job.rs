@@ -1,0 +1,255 @@
+//! A command on a segment, to be executed over and over.
+
+use std::cell::RefCell;
+use std::fmt::{self, Display};
+use std::io;
+use std::ops::Range;
+
+use reference::{Description, Outcome};
+
+use crate::archive;
+use crate::bytes::{noise, repeats};
+use crate::options::Options;
+use crate::table::{Case, Output, Pass, Table, Verdict, measure};
+
+#[derive(Clone, Copy, PartialEq, Eq)]
+pub enum Operation {
+    Read,
+    Write,
+    Verify,
+}
+
+impl Operation {
+    pub const ALL: [Operation; 3] = [Operation::Read, Operation::Write, Operation::Verify];
+}
+
+impl Display for Operation {
+    fn fmt(&self, f: &mut fmt::Formatter<'_>) -> fmt::Result {
+        f.pad(match self {
+            Operation::Read => "READ",
+            Operation::Write => "WRITE",
+            Operation::Verify => "VERIFY",
+        })
+    }
+}
+
+/// What a command asks: an operation with a protect code, and the transfer's
+/// blocks, counted from the segment's first.
+pub struct Request {
+    pub operation: Operation,
+    pub code: u8,
+    pub blocks: Range<usize>,
+}
+
+/// Both implementations of the commands.
+type Execute = fn(&Description, &mut [u8], &[u8], &mut [u8]) -> Outcome;
+
+/// The first address of every segment: transfers cross 2^32.
+const FIRST: u64 = (1 << 32) - 4;
+
+/// The reference tag of a type 2 segment's first interval: they pass 2^32 too.
+const FIRST_TAG: u32 = u32::MAX - 4;
+
+const APPLICATION: u16 = 0x1234;
+
+/// The bytes of an outcome behind the results of a job.
+const OUTCOME: usize = 24;
+
+pub struct Job {
+    desc: Description,
+    request: Request,
+    command: Vec<u8>,
+    /// The segment, or the buffer of a WRITE: what the command does not change.
+    lent: RefCell<Vec<u8>>,
+    /// Where the transfer lies in it.
+    moved: Range<usize>,
+    /// The bytes of what the command changes: the buffer, or the segment of a
+    /// WRITE.
+    changed: usize,
+    /// Where the transfer lies in that.
+    written: Range<usize>,
+}
+
+impl Job {
+    /// A request that is good, on a segment of `count` blocks of `block` bytes:
+    /// of type 1 for exponent 0, else of type 2 with 32-byte commands and all
+    /// fields checked.
+    pub fn new(block: usize, exponent: u32, count: usize, request: Request) -> Job {
+        let long = exponent > 0;
+        let desc = Description {
+            p: if long { 2 } else { 1 },
+            b: block as u64,
+            e: exponent.into(),
+            w: FIRST,
+            n: count as u64,
+            ato: long.into(),
+        };
+        let transfer = request.blocks.len();
+        let stored = block + (8 << exponent);
+        let place = request.blocks.start * stored..request.blocks.end * stored;
+        let brought = if request.code == 0 { block } else { stored } * transfer;
+        let segment = good_segment(&desc, count * stored);
+        let (lent, moved, changed, written) = match request.operation {
+            Operation::Read => (segment, place, brought, 0..brought),
+            Operation::Verify => (segment, place, 0, 0..0),
+            Operation::Write if request.code == 0 => {
+                (noise(brought), 0..brought, segment.len(), place)
+            }
+            Operation::Write => {
+                let buffer = segment[place.clone()].to_vec();
+                (buffer, 0..brought, segment.len(), place)
+            }
+        };
+        let job = Job {
+            command: command(&desc, &request),
+            desc,
+            request,
+            lent: RefCell::new(lent),
+            moved,
+            changed,
+            written,
+        };
+        let (results, _) = job.once(reference::execute);
+        assert!(results.ends_with(&[0; OUTCOME]), "the request is good");
+        job
+    }
+
+    /// Executes the command so many times; the results are what it changes, then
+    /// the last outcome.
+    fn execute(&self, execute: Execute, times: usize, results: &mut [u8]) {
+        let lent = &mut self.lent.borrow_mut()[..];
+        let (changed, last) = results.split_at_mut(self.changed);
+        let (segment, buffer) = match self.request.operation {
+            Operation::Write => (changed, lent),
+            Operation::Read | Operation::Verify => (lent, changed),
+        };
+        let mut outcome = Outcome::from(0);
+        for _ in 0..times {
+            outcome = execute(&self.desc, segment, &self.command, buffer);
+        }
+        let numbers = [outcome.answer, outcome.address, outcome.place];
+        last.copy_from_slice(numbers.map(u64::to_le_bytes).as_flattened());
+    }
+
+    /// Whether both give the same where all is well, and where the last byte of
+    /// user data of the transfer is another: then the fault is met last, or, by a
+    /// WRITE that brings no fields, stored.
+    pub fn agreed(&self) -> bool {
+        let last = self.moved.end - 9;
+        let well = self.once(archive::execute) == self.once(reference::execute);
+        self.lent.borrow_mut()[last] ^= 1;
+        let damaged = self.once(archive::execute) == self.once(reference::execute);
+        self.lent.borrow_mut()[last] ^= 1;
+        well && damaged
+    }
+
+    /// What the command leaves: all of both lists, and the outcome.
+    fn once(&self, execute: Execute) -> (Vec<u8>, Vec<u8>) {
+        let mut results = vec![0; self.changed + OUTCOME];
+        self.execute(execute, 1, &mut results);
+        (results, self.lent.borrow().clone())
+    }
+
+    /// The user data of the transfer.
+    fn data(&self) -> usize {
+        self.request.blocks.len() * self.desc.b as usize
+    }
+}
+
+/// A job in a table.
+pub struct Line {
+    pub name: String,
+    /// The units that one command does.
+    pub units: usize,
+    pub limit: f64,
+    pub job: Job,
+}
+
+impl Line {
+    fn case(&self, blocks: usize) -> Case<'_> {
+        let job = &self.job;
+        let times = repeats(blocks, job.data());
+        let pass = |execute: Execute| -> Pass<'_> {
+            Box::new(move |results| job.execute(execute, times, results))
+        };
+        Case {
+            name: self.name.clone(),
+            count: times * self.units,
+            results: job.changed + OUTCOME,
+            written: job.written.clone(),
+            limit: Some(self.limit),
+            ours: pass(archive::execute),
+            rust: pass(reference::execute),
+        }
+    }
+}
+
+/// A table of jobs.
+pub struct Jobs<'a> {
+    pub title: String,
+    pub names: &'a str,
+    pub unit: &'a str,
+    pub lines: Vec<Line>,
+}
+
+impl Jobs<'_> {
+    pub fn measure(&self, options: &Options, out: Output<'_>) -> io::Result<Verdict> {
+        let mut verdict = Verdict::default();
+        for line in self.lines.iter().filter(|line| !line.job.agreed()) {
+            writeln!(out, "{}, {}: results differ", self.title, line.name)?;
+            verdict.differ = true;
+        }
+        let cases = self.lines.iter().map(|line| line.case(options.blocks));
+        let table = Table {
+            title: self.title.clone(),
+            names: self.names,
+            unit: self.unit,
+            cases: cases.collect(),
+        };
+        Ok(verdict.and(measure(out, options.rounds, table)?))
+    }
+}
+
+/// A segment of which every interval is right.
+fn good_segment(desc: &Description, length: usize) -> Vec<u8> {
+    let mut segment = vec![0; length];
+    let whole = Request {
+        operation: Operation::Write,
+        code: 0,
+        blocks: 0..desc.n as usize,
+    };
+    let mut buffer = noise(whole.blocks.len() * desc.b as usize);
+    let outcome = reference::execute(desc, &mut segment, &command(desc, &whole), &mut buffer);
+    assert_eq!(outcome.answer, 0, "a fresh segment is written");
+    segment
+}
+
+/// The bytes of a command: 32 for type 2, else 16.
+fn command(desc: &Description, request: &Request) -> Vec<u8> {
+    let address = (desc.w + request.blocks.start as u64).to_be_bytes();
+    let length = (request.blocks.len() as u32).to_be_bytes();
+    let protect = request.code << 5;
+    if desc.p != 2 {
+        let operation = match request.operation {
+            Operation::Read => 0x88,
+            Operation::Write => 0x8A,
+            Operation::Verify => 0x8F,
+        };
+        return [&[operation, protect], &address[..], &length, &[0, 0]].concat();
+    }
+    let action = match request.operation {
+        Operation::Read => 0x09,
+        Operation::Write => 0x0B,
+        Operation::Verify => 0x0A,
+    };
+    let passed = (request.blocks.start as u32) << desc.e;
+    [
+        &[0x7F, 0, 0, 0, 0, 0, 0, 0x18, 0, action, protect, 0],
+        &address[..],
+        &FIRST_TAG.wrapping_add(passed).to_be_bytes(),
+        &APPLICATION.to_be_bytes(),
+        &[0xFF, 0xFF],
+        &length,
+    ]
+    .concat()
+}
