@@ -1,0 +1,468 @@
+//! Calls for READ, WRITE and VERIFY.
+
+use reference::Description;
+
+use crate::call::Call;
+use crate::command::{Command, OPERATIONS, Operation, SIZES};
+use crate::numbers::Numbers;
+use crate::scene::{Scene, buffer_length};
+use crate::segment::{Intervals, SHAPES, any_good, one_number_away, spoil, stretch};
+use crate::trial::{Held, Put};
+
+pub fn each(put: Put<'_>) -> Held {
+    let numbers = &mut Numbers::new(6);
+    every_transfer(numbers, put)?;
+    every_fault(numbers, put)?;
+    every_pair_of_faults(numbers, put)?;
+    every_escape(numbers, put)?;
+    every_bit_of_a_command(numbers, put)?;
+    every_first_byte(numbers, put)?;
+    every_service_action(numbers, put)?;
+    every_protect_byte(numbers, put)?;
+    every_length(numbers, put)?;
+    every_description(numbers, put)?;
+    every_address(numbers, put)?;
+    largest(numbers, put)
+}
+
+/// Four blocks, of which the command moves the middle two. The expected tags wrap
+/// within the transfer, and not every bit of the application tag is compared.
+fn middle(p: u64, e: u64, operation: Operation, size: usize) -> (Description, Command) {
+    let desc = Description {
+        p,
+        b: 8,
+        e,
+        w: 7,
+        n: 4,
+        ato: 1,
+    };
+    let command = Command {
+        operation,
+        size,
+        code: 0,
+        address: 8,
+        length: 2,
+        first: 0xFFFF_FFFD,
+        application: 0x1234,
+        mask: 0xF0FF,
+    };
+    (desc, command)
+}
+
+/// Every type and exponent with every operation, size and code.
+fn kinds() -> Vec<(Description, Command)> {
+    let mut out = Vec::new();
+    for (p, e) in SHAPES {
+        for operation in OPERATIONS {
+            for size in SIZES {
+                let (desc, command) = middle(p, e, operation, size);
+                out.extend((0..8).map(|code| (desc, Command { code, ..command })));
+            }
+        }
+    }
+    out
+}
+
+/// Each kind with block lengths from least to greatest, for each part of a segment
+/// of three blocks.
+fn every_transfer(numbers: &mut Numbers, put: Put<'_>) -> Held {
+    for (desc, command) in kinds() {
+        for (b, ato) in [(8, 0), (8, 1), (24, 0), (512, 1), (520, 0), (4_096, 1)] {
+            for start in 0..=3 {
+                for length in 0..=3 - start {
+                    let desc = Description {
+                        b,
+                        ato,
+                        n: 3,
+                        ..desc
+                    };
+                    let command = Command {
+                        address: desc.w + u64::from(start),
+                        length,
+                        ..command
+                    };
+                    put(Scene::right(desc, command, numbers).call())?;
+                }
+            }
+        }
+    }
+    Ok(())
+}
+
+/// A wrong bit in each byte of the segment and of the buffer.
+fn every_fault(numbers: &mut Numbers, put: Put<'_>) -> Held {
+    for (desc, command) in kinds() {
+        for ato in 0..2 {
+            let scene = Scene::right(Description { ato, ..desc }, command, numbers);
+            for place in 0..scene.segment.len() {
+                let mut scene = scene.clone();
+                scene.segment[place] ^= 1 << numbers.below(8);
+                put(scene.call())?;
+            }
+            for place in 0..scene.buffer.len() {
+                let mut scene = scene.clone();
+                scene.buffer[place] ^= 1 << numbers.below(8);
+                put(scene.call())?;
+            }
+        }
+    }
+    Ok(())
+}
+
+/// Two faults of each kind in each two places of a transfer of four intervals: the
+/// first is named.
+fn every_pair_of_faults(numbers: &mut Numbers, put: Put<'_>) -> Held {
+    for (operation, code) in OPERATIONS
+        .iter()
+        .flat_map(|&operation| (0..6).map(move |code| (operation, code)))
+    {
+        let (desc, command) = middle(2, 1, operation, 32);
+        let scene = Scene::right(desc, Command { code, ..command }, numbers);
+        let data = Intervals::of(&desc).data;
+        // In the data, the guard, the application tag, the reference tag.
+        let places: Vec<usize> = (0..4)
+            .flat_map(|place| [0, data, data + 2, data + 4].map(|at| (place, at)))
+            .map(|(place, at)| scene.interval(place) + at)
+            .collect();
+        for one in &places {
+            for other in &places {
+                let mut scene = scene.clone();
+                scene.judged()[*one] ^= 0x10;
+                scene.judged()[*other] ^= 0x20;
+                put(scene.call())?;
+            }
+        }
+    }
+    Ok(())
+}
+
+/// The marks of an escape, or a part of them, in each interval of the transfer,
+/// with a fault of each kind in each interval.
+fn every_escape(numbers: &mut Numbers, put: Put<'_>) -> Held {
+    for (desc, command) in kinds() {
+        let fields = desc.p != 0 && command.code < 6;
+        if !fields || (command.size == 32) != (desc.p == 2) {
+            continue;
+        }
+        let scene = Scene::right(desc, command, numbers);
+        let sizes = Intervals::of(&desc);
+        for marked in 0..2 * sizes.each {
+            for (from, to) in [(2, 4), (2, 8), (4, 8), (2, 3), (3, 7)] {
+                for wrong in 0..2 * sizes.each {
+                    let at = wrong % 3 * 2;
+                    let mut scene = scene.clone();
+                    let (marks, fault) = (scene.interval(marked), scene.interval(wrong));
+                    if marks.max(fault) + sizes.step > scene.judged().len() {
+                        continue;
+                    }
+                    scene.judged()[fault + sizes.data + at] ^= 0x40;
+                    scene.judged()[marks + sizes.data..][from..to].fill(0xFF);
+                    put(scene.call())?;
+                }
+            }
+        }
+    }
+    Ok(())
+}
+
+/// Each bit of each command turned over.
+fn every_bit_of_a_command(numbers: &mut Numbers, put: Put<'_>) -> Held {
+    for (desc, command) in kinds() {
+        if command.code > 1 {
+            continue;
+        }
+        let scene = Scene::right(desc, command, numbers);
+        let bytes = command.bytes();
+        for bit in 0..8 * bytes.len() {
+            let mut bytes = bytes.clone();
+            bytes[bit / 8] ^= 1 << (bit % 8);
+            put(scene.call_by(&bytes))?;
+        }
+    }
+    Ok(())
+}
+
+/// Each byte 0 with each length of command, the rest any bytes or those of a
+/// right command.
+fn every_first_byte(numbers: &mut Numbers, put: Put<'_>) -> Held {
+    for p in 0..4 {
+        for size in SIZES {
+            let (desc, command) = middle(p, 0, Operation::Read, size);
+            let scene = Scene::right(desc, command, numbers);
+            for first in 0..=255 {
+                for length in 0..=40 {
+                    let mut bytes = command.bytes();
+                    bytes.resize(length, 0);
+                    if let Some(byte) = bytes.first_mut() {
+                        *byte = first;
+                    }
+                    put(scene.call_by(&bytes))?;
+                }
+            }
+        }
+    }
+    Ok(())
+}
+
+/// Each service action, and byte 7 for those served.
+fn every_service_action(numbers: &mut Numbers, put: Put<'_>) -> Held {
+    let (desc, command) = middle(2, 1, Operation::Read, 32);
+    let scene = Scene::right(desc, command, numbers);
+    let bytes = command.bytes();
+    for action in 0..=u16::MAX {
+        let mut bytes = bytes.clone();
+        bytes[8..10].copy_from_slice(&action.to_be_bytes());
+        put(scene.call_by(&bytes))?;
+    }
+    for action in 8..13 {
+        for length in 0..=256 {
+            let mut bytes = bytes.clone();
+            bytes[9] = action;
+            bytes[7] = length as u8;
+            bytes.resize([32, 31, 33, 10, 9][length % 5], 0);
+            put(scene.call_by(&bytes))?;
+            bytes.resize(32, 0);
+            put(scene.call_by(&bytes))?;
+        }
+    }
+    Ok(())
+}
+
+/// Each protect byte: each code with each of the bits beside it.
+fn every_protect_byte(numbers: &mut Numbers, put: Put<'_>) -> Held {
+    for (desc, command) in kinds() {
+        let scene = Scene::right(desc, command, numbers);
+        for low in 0..32 {
+            let mut bytes = command.bytes();
+            bytes[command.protect_place()] |= low;
+            put(scene.call_by(&bytes))?;
+        }
+    }
+    Ok(())
+}
+
+/// Each kind with each wrong length of the segment and of the buffer.
+fn every_length(numbers: &mut Numbers, put: Put<'_>) -> Held {
+    for (desc, command) in kinds() {
+        let scene = Scene::right(desc, command, numbers);
+        let stored = Intervals::of(&desc).stored();
+        for segment in lengths(scene.segment.len(), stored) {
+            let mut scene = scene.clone();
+            scene.segment.resize(segment, 0x77);
+            put(scene.call())?;
+        }
+        // Also the length that another code or operation would ask for.
+        let others = [2 * stored, 2 * desc.b as usize, 4 * stored];
+        for buffer in lengths(scene.buffer.len(), stored).chain(others) {
+            let mut scene = scene.clone();
+            scene.buffer.resize(buffer, 0x77);
+            put(scene.call())?;
+        }
+    }
+    Ok(())
+}
+
+/// Lengths that a right one may be taken for.
+fn lengths(right: usize, step: usize) -> impl Iterator<Item = usize> {
+    let more = [0, 1, right + 1, right + 8, right + step, 2 * right];
+    let less = [1, 8, step].map(|less| right.saturating_sub(less));
+    more.into_iter().chain(less)
+}
+
+/// Each number of a description at its limits and past them.
+fn every_description(numbers: &mut Numbers, put: Put<'_>) -> Held {
+    for (desc, command) in kinds() {
+        if command.code != 0 {
+            continue;
+        }
+        let scene = Scene::right(desc, command, numbers);
+        for desc in one_number_away(&desc) {
+            put(Scene {
+                desc,
+                ..scene.clone()
+            }
+            .call())?;
+        }
+    }
+    Ok(())
+}
+
+/// Segments at both ends of the addresses and near 2^32, with transfers at, before
+/// and past both ends of the segment.
+fn every_address(numbers: &mut Numbers, put: Put<'_>) -> Held {
+    let last = (1 << 63) - 3;
+    let near = (1 << 32) - 4..(1 << 32) + 3;
+    let firsts: Vec<u64> = [0, 1, 7, last - 1, last]
+        .into_iter()
+        .chain(near)
+        .chain([1 << 31, 1 << 62])
+        .collect();
+    for (desc, command) in kinds() {
+        if command.code > 1 {
+            continue;
+        }
+        for &w in &firsts {
+            let desc = Description { w, n: 3, ..desc };
+            for command in around(&desc, command) {
+                put(Scene::right(desc, command, numbers).call())?;
+            }
+        }
+    }
+    Ok(())
+}
+
+/// The command at addresses and with lengths about the segment's ends.
+fn around(desc: &Description, command: Command) -> Vec<Command> {
+    let end = desc.w + desc.n;
+    let near = [desc.w.wrapping_sub(1), desc.w, desc.w + 1, end - 1, end];
+    let far = [end + 1, 0, desc.w + (1 << 32), 1 << 63, u64::MAX];
+    let mut out = Vec::new();
+    for address in near.into_iter().chain(far) {
+        for length in [0, 1, 2, 3, 4, 1 << 16, u32::MAX] {
+            out.push(Command {
+                address,
+                length,
+                ..command
+            });
+        }
+    }
+    out
+}
+
+/// As many blocks as there may be, with a fault in the first, the last or none.
+fn largest(numbers: &mut Numbers, put: Put<'_>) -> Held {
+    for p in 0..4 {
+        for operation in OPERATIONS {
+            let (desc, command) = middle(p, 0, operation, if p == 2 { 32 } else { 16 });
+            let desc = Description { n: 65_536, ..desc };
+            let command = Command {
+                code: u8::from(p != 0),
+                address: desc.w,
+                length: 65_536,
+                ..command
+            };
+            let mut scene = Scene::right(desc, command, numbers);
+            put(scene.call())?;
+            for place in [scene.judged().len() - 1, 0] {
+                scene.judged()[place] ^= 1;
+                put(scene.call())?;
+            }
+        }
+    }
+    Ok(())
+}
+
+pub fn any(numbers: &mut Numbers) -> Call {
+    let desc = any_good(numbers, 12_000);
+    let command = any_command(&desc, numbers);
+    let mut scene = Scene::right(desc, command, numbers);
+    for _ in 0..numbers.pick(&[0, 0, 0, 1, 1, 2, 4]) {
+        spoil_intervals(&mut scene, numbers);
+    }
+    while numbers.once_in(4) {
+        spoil_scene(&mut scene, numbers);
+    }
+    let mut bytes = scene.command.bytes();
+    while numbers.once_in(8) {
+        spoil_command(&mut bytes, numbers);
+    }
+    scene.call_by(&bytes)
+}
+
+/// A command that the description allows, but for a few.
+fn any_command(desc: &Description, numbers: &mut Numbers) -> Command {
+    let sizes: &[usize] = match desc.p {
+        2 => &[10, 12, 16, 32, 32, 32],
+        _ => &[10, 12, 16, 16],
+    };
+    let size = match numbers.below(32) {
+        0 => numbers.pick(&SIZES),
+        _ => numbers.pick(sizes),
+    };
+    let moves_fields = desc.p == 1 || desc.p == 3 || size == 32;
+    let start = numbers.below(desc.n + 1);
+    let most = match numbers.below(4) {
+        0 => desc.n - start,
+        _ => numbers.below(desc.n - start + 1),
+    };
+    Command {
+        operation: numbers.pick(&OPERATIONS),
+        size,
+        code: match numbers.below(32) {
+            0 => numbers.below(8) as u8,
+            _ if moves_fields => numbers.below(6) as u8,
+            _ => 0,
+        },
+        address: desc.w + start,
+        length: most as u32,
+        first: match numbers.below(3) {
+            0 => numbers.next() as u32,
+            _ => 0u32.wrapping_sub(numbers.below(8) as u32),
+        },
+        application: numbers.pick(&[0x0000, 0x1234, 0xFFFE, 0xFFFF]),
+        mask: numbers.pick(&[0x0000, 0x00FF, 0xF00F, 0xFFFF]),
+    }
+}
+
+/// A wrong bit, wrong tags or marks of an escape in an interval of the segment or
+/// of the buffer.
+fn spoil_intervals(scene: &mut Scene, numbers: &mut Numbers) {
+    let sizes = Intervals::of(&scene.desc);
+    let bytes = if numbers.once_in(8) {
+        &mut scene.segment
+    } else {
+        scene.judged()
+    };
+    let count = bytes.len() / sizes.step;
+    if count == 0 {
+        return;
+    }
+    let interval = &mut bytes[numbers.place(count) * sizes.step..][..sizes.step];
+    let (data, fields) = interval.split_at_mut(sizes.data);
+    match numbers.below(4) {
+        0 => data[numbers.place(sizes.data)] ^= 1 << numbers.below(8),
+        _ if fields.is_empty() => {}
+        1 => fields[numbers.place(8)] ^= 1 << numbers.below(8),
+        2 => {
+            let (from, to) = numbers.pick(&[(0, 2), (2, 4), (4, 8), (2, 8), (0, 8)]);
+            fields[from..to].fill(0xFF);
+        }
+        _ => {
+            let (from, to) = numbers.pick(&[(0, 2), (2, 4), (4, 8)]);
+            fields[from..to].fill(numbers.pick(&[0x00, 0xFE, 0x7F]));
+        }
+    }
+}
+
+/// Another description, length, address, code or operation than the bytes were
+/// made for.
+fn spoil_scene(scene: &mut Scene, numbers: &mut Numbers) {
+    let command = &mut scene.command;
+    match numbers.below(9) {
+        0 => spoil(&mut scene.desc, numbers),
+        1 => stretch(&mut scene.segment, numbers),
+        2 => stretch(&mut scene.buffer, numbers),
+        3 => command.address = numbers.edge(),
+        4 => command.address = numbers.beside(command.address),
+        5 => command.length = numbers.beside(command.length.into()) as u32,
+        6 => command.code = numbers.below(8) as u8,
+        7 => command.operation = numbers.pick(&OPERATIONS),
+        _ => command.length = numbers.edge() as u32,
+    }
+    if scene.desc.fits() && numbers.once_in(2) {
+        let count = u64::from(scene.command.length).min(scene.desc.n).min(300);
+        let length = buffer_length(&scene.desc, &scene.command, count);
+        scene.buffer.resize(length, 0x77);
+    }
+}
+
+fn spoil_command(bytes: &mut Vec<u8>, numbers: &mut Numbers) {
+    let length = bytes.len();
+    match numbers.below(4) {
+        0 => stretch(bytes, numbers),
+        1 => bytes.truncate(numbers.place(length + 1)),
+        _ if length == 0 => {}
+        2 => bytes[numbers.place(length)] = numbers.next() as u8,
+        _ => bytes[numbers.place(length)] ^= 1 << numbers.below(8),
+    }
+}
