@@ -11,16 +11,16 @@ use crate::trial::{Held, Put};
 
 pub fn each(put: Put<'_>) -> Held {
     let numbers = &mut Numbers::new(6);
-    every_transfer(numbers, put)?;
-    every_fault(numbers, put)?;
+    every_description(numbers, put)?;
+    every_length(numbers, put)?;
+    every_protect_byte(numbers, put)?;
+    every_bit_of_a_command(numbers, put)?;
+    every_service_action(numbers, put)?;
+    every_first_byte(numbers, put)?;
     every_pair_of_faults(numbers, put)?;
     every_escape(numbers, put)?;
-    every_bit_of_a_command(numbers, put)?;
-    every_first_byte(numbers, put)?;
-    every_service_action(numbers, put)?;
-    every_protect_byte(numbers, put)?;
-    every_length(numbers, put)?;
-    every_description(numbers, put)?;
+    every_fault(numbers, put)?;
+    every_transfer(numbers, put)?;
     every_address(numbers, put)?;
     largest(numbers, put)
 }
@@ -63,6 +63,18 @@ fn kinds() -> Vec<(Description, Command)> {
     out
 }
 
+/// The kinds that no rule of type or code refuses.
+fn served() -> impl Iterator<Item = (Description, Command)> {
+    kinds().into_iter().filter(|(desc, command)| {
+        let long = command.size == 32;
+        match desc.p {
+            0 => !long && command.code == 0,
+            2 => command.code == 0 || long && command.code < 6,
+            _ => !long && command.code < 6,
+        }
+    })
+}
+
 /// Each kind with block lengths from least to greatest, for each part of a segment
 /// of three blocks.
 fn every_transfer(numbers: &mut Numbers, put: Put<'_>) -> Held {
@@ -89,19 +101,19 @@ fn every_transfer(numbers: &mut Numbers, put: Put<'_>) -> Held {
     Ok(())
 }
 
-/// A wrong bit in each byte of the segment and of the buffer.
+/// Each wrong bit of the segment and of the buffer.
 fn every_fault(numbers: &mut Numbers, put: Put<'_>) -> Held {
-    for (desc, command) in kinds() {
+    for (desc, command) in served() {
         for ato in 0..2 {
             let scene = Scene::right(Description { ato, ..desc }, command, numbers);
-            for place in 0..scene.segment.len() {
+            for bit in 0..8 * scene.segment.len() {
                 let mut scene = scene.clone();
-                scene.segment[place] ^= 1 << numbers.below(8);
+                scene.segment[bit / 8] ^= 1 << (bit % 8);
                 put(scene.call())?;
             }
-            for place in 0..scene.buffer.len() {
+            for bit in 0..8 * scene.buffer.len() {
                 let mut scene = scene.clone();
-                scene.buffer[place] ^= 1 << numbers.below(8);
+                scene.buffer[bit / 8] ^= 1 << (bit % 8);
                 put(scene.call())?;
             }
         }
@@ -139,25 +151,26 @@ fn every_pair_of_faults(numbers: &mut Numbers, put: Put<'_>) -> Held {
 /// The marks of an escape, or a part of them, in each interval of the transfer,
 /// with a fault of each kind in each interval.
 fn every_escape(numbers: &mut Numbers, put: Put<'_>) -> Held {
-    for (desc, command) in kinds() {
-        let fields = desc.p != 0 && command.code < 6;
-        if !fields || (command.size == 32) != (desc.p == 2) {
+    let one_size = |desc: &Description| if desc.p == 2 { 32 } else { 10 };
+    for (desc, command) in served() {
+        if desc.p == 0 || command.size != one_size(&desc) {
             continue;
         }
         let scene = Scene::right(desc, command, numbers);
         let sizes = Intervals::of(&desc);
-        for marked in 0..2 * sizes.each {
+        let fields: Vec<usize> = (0..2 * sizes.each)
+            .map(|place| scene.interval(place) + sizes.data)
+            .collect();
+        for marked in &fields {
             for (from, to) in [(2, 4), (2, 8), (4, 8), (2, 3), (3, 7)] {
-                for wrong in 0..2 * sizes.each {
-                    let at = wrong % 3 * 2;
-                    let mut scene = scene.clone();
-                    let (marks, fault) = (scene.interval(marked), scene.interval(wrong));
-                    if marks.max(fault) + sizes.step > scene.judged().len() {
-                        continue;
+                for wrong in &fields {
+                    // In the guard, the application tag, the reference tag.
+                    for at in [0, 2, 4] {
+                        let mut scene = scene.clone();
+                        scene.judged()[wrong + at] ^= 0x40;
+                        scene.judged()[marked + from..marked + to].fill(0xFF);
+                        put(scene.call())?;
                     }
-                    scene.judged()[fault + sizes.data + at] ^= 0x40;
-                    scene.judged()[marks + sizes.data..][from..to].fill(0xFF);
-                    put(scene.call())?;
                 }
             }
         }
@@ -182,20 +195,17 @@ fn every_bit_of_a_command(numbers: &mut Numbers, put: Put<'_>) -> Held {
     Ok(())
 }
 
-/// Each byte 0 with each length of command, the rest any bytes or those of a
-/// right command.
+/// Each byte 0 with each length of command, the rest that of a right command.
 fn every_first_byte(numbers: &mut Numbers, put: Put<'_>) -> Held {
     for p in 0..4 {
-        for size in SIZES {
+        for size in [10, 32] {
             let (desc, command) = middle(p, 0, Operation::Read, size);
             let scene = Scene::right(desc, command, numbers);
             for first in 0..=255 {
                 for length in 0..=40 {
                     let mut bytes = command.bytes();
+                    bytes[0] = first;
                     bytes.resize(length, 0);
-                    if let Some(byte) = bytes.first_mut() {
-                        *byte = first;
-                    }
                     put(scene.call_by(&bytes))?;
                 }
             }
@@ -204,25 +214,28 @@ fn every_first_byte(numbers: &mut Numbers, put: Put<'_>) -> Held {
     Ok(())
 }
 
-/// Each service action, and byte 7 for those served.
+/// Each service action, and those served with each length and each byte 7.
 fn every_service_action(numbers: &mut Numbers, put: Put<'_>) -> Held {
     let (desc, command) = middle(2, 1, Operation::Read, 32);
     let scene = Scene::right(desc, command, numbers);
-    let bytes = command.bytes();
+    let mut bytes = command.bytes();
     for action in 0..=u16::MAX {
-        let mut bytes = bytes.clone();
         bytes[8..10].copy_from_slice(&action.to_be_bytes());
         put(scene.call_by(&bytes))?;
     }
-    for action in 8..13 {
-        for length in 0..=256 {
-            let mut bytes = bytes.clone();
-            bytes[9] = action;
-            bytes[7] = length as u8;
-            bytes.resize([32, 31, 33, 10, 9][length % 5], 0);
+    for operation in OPERATIONS {
+        let (_, command) = middle(2, 1, operation, 32);
+        let scene = Scene::right(desc, command, numbers);
+        for length in 0..=300 {
+            let mut bytes = command.bytes();
+            bytes.resize(length, 0);
             put(scene.call_by(&bytes))?;
-            bytes.resize(32, 0);
+        }
+        for additional in 0..=255 {
+            let mut bytes = command.bytes();
+            bytes[7] = additional;
             put(scene.call_by(&bytes))?;
+            put(scene.call_by(&bytes[..31]))?;
         }
     }
     Ok(())
@@ -371,9 +384,13 @@ pub fn any(numbers: &mut Numbers) -> Call {
 
 /// A command that the description allows, but for a few.
 fn any_command(desc: &Description, numbers: &mut Numbers) -> Command {
-    let sizes: &[usize] = match desc.p {
-        2 => &[10, 12, 16, 32, 32, 32],
-        _ => &[10, 12, 16, 16],
+    // Four bytes hold the low addresses alone.
+    let low = desc.w + desc.n <= 1 << 32;
+    let sizes: &[usize] = match (desc.p, low) {
+        (2, true) => &[10, 12, 16, 32, 32, 32],
+        (2, false) => &[16, 32],
+        (_, true) => &[10, 12, 16],
+        (_, false) => &[16],
     };
     let size = match numbers.below(32) {
         0 => numbers.pick(&SIZES),
@@ -396,7 +413,7 @@ fn any_command(desc: &Description, numbers: &mut Numbers) -> Command {
         address: desc.w + start,
         length: most as u32,
         first: match numbers.below(3) {
-            0 => numbers.next() as u32,
+            0 => numbers.number() as u32,
             _ => 0u32.wrapping_sub(numbers.below(8) as u32),
         },
         application: numbers.pick(&[0x0000, 0x1234, 0xFFFE, 0xFFFF]),
@@ -428,7 +445,7 @@ fn spoil_intervals(scene: &mut Scene, numbers: &mut Numbers) {
             fields[from..to].fill(0xFF);
         }
         _ => {
-            let (from, to) = numbers.pick(&[(0, 2), (2, 4), (4, 8)]);
+            let (from, to) = numbers.pick(&[(0, 2), (2, 4), (2, 4), (4, 8)]);
             fields[from..to].fill(numbers.pick(&[0x00, 0xFE, 0x7F]));
         }
     }
@@ -462,7 +479,7 @@ fn spoil_command(bytes: &mut Vec<u8>, numbers: &mut Numbers) {
         0 => stretch(bytes, numbers),
         1 => bytes.truncate(numbers.place(length + 1)),
         _ if length == 0 => {}
-        2 => bytes[numbers.place(length)] = numbers.next() as u8,
+        2 => bytes[numbers.place(length)] = numbers.number() as u8,
         _ => bytes[numbers.place(length)] ^= 1 << numbers.below(8),
     }
 }

@@ -31,7 +31,7 @@ fn choices(put: Put<'_>) -> Held {
                     for place in 0..4 {
                         for far in [0x100, 1 << 32, 1 << 63, u64::MAX - 7] {
                             let mut numbers = numbers;
-                            numbers[place] += far;
+                            numbers[place] = numbers[place].wrapping_add(far);
                             put(choice(numbers))?;
                         }
                     }

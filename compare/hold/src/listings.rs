@@ -41,7 +41,7 @@ fn described(p: u64, b: u64, e: u64, w: u64, n: u64) -> Description {
 /// A segment in which every interval is right.
 fn right(desc: &Description, numbers: &mut Numbers) -> Vec<u8> {
     let tags = Tags {
-        application: numbers.next() as u16 >> 1,
+        application: numbers.number() as u16 >> 1,
         first: desc.w as u32,
     };
     blocks(desc, desc.n, tags, numbers)
@@ -220,7 +220,7 @@ pub fn any(numbers: &mut Numbers) -> Call {
         3 => input = numbers.bytes(input.len().min(40)),
         4 => {
             let place = numbers.place(4 + HEAD);
-            input[place] = numbers.next() as u8;
+            input[place] = numbers.number() as u8;
         }
         5 => {
             stretch(&mut segment, numbers);

@@ -48,11 +48,11 @@ fn hold(options: &Options, out: &mut impl Write) -> io::Result<bool> {
         return Ok(false);
     }
     writeln!(out, "{}", trial.tally)?;
+    writeln!(out, "seed {}: all agree", options.seed)?;
     let amiss = trial.tally.amiss();
     for line in &amiss {
-        writeln!(out, "{line}")?;
+        complain(line);
     }
-    writeln!(out, "seed {}: all agree", options.seed)?;
     Ok(amiss.is_empty())
 }
 

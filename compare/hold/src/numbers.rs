@@ -8,7 +8,7 @@ impl Numbers {
     }
 
     /// Splitmix64.
-    pub fn next(&mut self) -> u64 {
+    pub fn number(&mut self) -> u64 {
         self.0 = self.0.wrapping_add(0x9E37_79B9_7F4A_7C15);
         let mut z = self.0;
         z = (z ^ (z >> 30)).wrapping_mul(0xBF58_476D_1CE4_E5B9);
@@ -17,7 +17,7 @@ impl Numbers {
     }
 
     pub fn below(&mut self, limit: u64) -> u64 {
-        self.next() % limit
+        self.number() % limit
     }
 
     pub fn place(&mut self, length: usize) -> usize {
@@ -36,7 +36,7 @@ impl Numbers {
     pub fn bytes(&mut self, length: usize) -> Vec<u8> {
         let mut out = vec![0; length];
         for part in out.chunks_mut(8) {
-            part.copy_from_slice(&self.next().to_le_bytes()[..part.len()]);
+            part.copy_from_slice(&self.number().to_le_bytes()[..part.len()]);
         }
         out
     }
@@ -59,7 +59,7 @@ impl Numbers {
     /// A number at or beside one where something changes, or any.
     pub fn edge(&mut self) -> u64 {
         match self.below(8) {
-            0 => self.next(),
+            0 => self.number(),
             1 => 1 << self.below(64),
             _ => {
                 let edge = self.pick(&EDGES);

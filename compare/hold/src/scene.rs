@@ -26,7 +26,7 @@ impl Scene {
         };
         let offset = command.address.wrapping_sub(desc.w) << desc.e;
         // What the mask leaves out is not compared.
-        let application = command.application ^ (numbers.next() as u16 & !command.mask);
+        let application = command.application ^ (numbers.number() as u16 & !command.mask);
         let tags = |first| Tags { application, first };
         let segment = blocks(
             &desc,

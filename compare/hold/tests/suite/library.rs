@@ -66,10 +66,18 @@ impl Passing<'_> {
         unsafe { bytes(self.lent[number]) }
     }
 
-    /// Writes a byte at a distance from the start of a lent slice, a fence's too.
-    pub fn write(&self, number: usize, distance: isize, byte: u8) {
-        // SAFETY: the fences are as wide as any distance in these tests.
-        unsafe { *self.lent[number].pointer.offset(distance) = byte };
+    /// Writes a byte of a lent slice.
+    pub fn write(&self, number: usize, place: usize, byte: u8) {
+        assert!(place < self.lent[number].length);
+        // SAFETY: the place is within the slice.
+        unsafe { *self.lent[number].pointer.add(place) = byte };
+    }
+
+    /// Turns over a bit at a distance from the start of a lent slice, also in the
+    /// fence before or behind it.
+    pub fn turn(&self, number: usize, distance: isize) {
+        // SAFETY: the tests keep to the slice and the bytes beside it.
+        unsafe { *self.lent[number].pointer.offset(distance) ^= 1 };
     }
 }
 

@@ -3,26 +3,39 @@
 use hold::call::Function;
 use hold::compare::Difference;
 use hold::fence::Empty;
-use hold::trial::Trial;
+use hold::trial::{Held, Put, Trial};
+use hold::{executes, formats, guards, listings, stripes};
 
 use crate::library::{Passing, Planted};
 
-/// The difference that the systematic calls find.
-fn found(fault: impl Fn(Passing<'_>) -> u64) -> Box<Difference> {
-    let library = Planted(fault);
-    let held = Trial::new(&library).systematic();
-    held.expect_err("the fault is not found")
+/// The systematic calls of a function and its like.
+fn systematic(function: Function) -> fn(Put<'_>) -> Held {
+    match function {
+        Function::Execute => executes::each,
+        Function::Format | Function::Fill => formats::each,
+        Function::Parity | Function::Rebuild | Function::Correct => stripes::each,
+        Function::List => listings::each,
+        _ => guards::each,
+    }
 }
 
-/// The systematic calls and some random ones each find it, in this function.
+/// The difference that the systematic calls find, in this function.
+fn found(function: Function, fault: impl Fn(Passing<'_>) -> u64) -> Box<Difference> {
+    let library = Planted(fault);
+    let mut trial = Trial::new(&library);
+    let held = systematic(function)(&mut |call| trial.put(call));
+    let difference = held.expect_err("the fault is not found");
+    assert_eq!(difference.call.function, function);
+    difference
+}
+
+/// The same, after random calls have found it too.
 fn is_found(function: Function, fault: impl Fn(Passing<'_>) -> u64) -> Box<Difference> {
     let library = Planted(&fault);
     let held = Trial::new(&library).random(1, 60_000);
     let difference = held.expect_err("random calls do not find the fault");
     assert_eq!(difference.call.function, function);
-    let difference = found(fault);
-    assert_eq!(difference.call.function, function);
-    difference
+    found(function, fault)
 }
 
 /// A READ, WRITE or VERIFY whose byte 0 or service action is one of these.
@@ -72,7 +85,7 @@ fn a_byte_behind_a_buffer() {
     let difference = is_found(Function::Execute, |call| {
         let answer = call.honest();
         if is_command(&call, READ) && answer == 0 && call.lent[2].length > 0 {
-            call.write(2, call.lent[2].length as isize, 0);
+            call.turn(2, call.lent[2].length as isize);
         }
         answer
     });
@@ -85,7 +98,7 @@ fn a_byte_before_a_segment() {
     let difference = is_found(Function::Fill, |call| {
         let answer = call.honest();
         if call.function == Function::Fill && answer == 0 {
-            call.write(0, -1, 0);
+            call.turn(0, -1);
         }
         answer
     });
@@ -126,14 +139,14 @@ fn bytes_that_are_only_read() {
     is_found(Function::Execute, |call| {
         let answer = call.honest();
         if is_command(&call, READ) && answer == 0 {
-            call.write(1, 1, call.bytes(1)[1] ^ 1);
+            call.turn(1, 1);
         }
         answer
     });
     is_found(Function::Correct, |call| {
         let answer = call.honest();
         if call.function == Function::Correct && answer == 0 {
-            call.write(1, 0, call.bytes(1)[0] ^ 0x80);
+            call.turn(1, 0);
         }
         answer
     });
@@ -144,7 +157,7 @@ fn a_buffer_half_filled_before_a_fault() {
     is_found(Function::Execute, |call| {
         let answer = call.honest();
         if is_command(&call, READ) && answer == 8 {
-            call.write(2, 0, call.bytes(2)[0] ^ 1);
+            call.turn(2, 0);
         }
         answer
     });
@@ -174,10 +187,11 @@ fn an_escape_applied_on_write() {
 #[test]
 fn an_escape_of_type_1_on_type_3() {
     is_found(Function::Execute, |mut call| {
-        let short = call.function == Function::Execute && call.numbers[0] == 3;
-        if short && is_command(&call, READ) && call.numbers[2] == 0 {
-            // Type 1 with no reference tag known is what code 100 makes of it.
-            call.numbers[0] = 1;
+        let single = call.function == Function::Execute && call.numbers[2] == 0;
+        // Under code 100 the two types differ in the escape alone.
+        if single && call.numbers[0] == 3 && is_command(&call, READ) {
+            let protect = call.bytes(1).get(1).map_or(0, |byte| byte >> 5);
+            call.numbers[0] = if protect == 0b100 { 1 } else { 3 };
         }
         call.honest()
     });
@@ -240,7 +254,7 @@ fn a_last_byte_of_parity_left() {
         let before = parity.then(|| call.bytes(1)[last]);
         let answer = call.honest();
         if let Some(before) = before {
-            call.write(1, last as isize, before);
+            call.write(1, last, before);
         }
         answer
     });
@@ -267,7 +281,7 @@ fn a_listing_that_ends_early() {
     is_found(Function::List, |call| {
         let length = call.honest();
         if call.function == Function::List && call.lent[1].length as u64 > length {
-            call.write(1, length as isize, b'\n');
+            call.turn(1, length as isize);
         }
         length
     });
@@ -285,7 +299,7 @@ fn a_sense_of_another_answer() {
 
 #[test]
 fn a_difference_shows_the_call_and_both_results() {
-    let difference = found(|call| {
+    let difference = found(Function::Format, |call| {
         let answer = call.honest();
         if call.function == Function::Format && call.numbers == [3, 1, 3, 1] {
             return 12;
@@ -300,11 +314,11 @@ fn a_difference_shows_the_call_and_both_results() {
          reference:\n  returned 0, places [3]\n\
          library:\n  returned 12, places [3]\n"
     );
-    let difference = found(|call| {
+    let difference = found(Function::Fill, |call| {
         let answer = call.honest();
         if call.function == Function::Fill && answer == 0 {
-            call.write(0, 2, 0xAB);
-            call.write(0, call.lent[0].length as isize, 0xCD);
+            call.turn(0, 2);
+            call.turn(0, call.lent[0].length as isize);
         }
         answer
     });
@@ -312,7 +326,7 @@ fn a_difference_shows_the_call_and_both_results() {
     assert!(shown.contains("lent 0 parts at byte 2:\n"), "{shown}");
     assert!(shown.contains("  wrote outside lent 0\n"), "{shown}");
     assert!(
-        shown.contains("library   6 bytes AB0000000000\n"),
+        shown.contains("library   6 bytes 010000000000\n"),
         "{shown}"
     );
 }

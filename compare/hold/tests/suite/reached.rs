@@ -10,7 +10,6 @@ use crate::library::Honest;
 fn an_honest_library_passes_and_every_answer_is_reached() {
     let mut trial = Trial::new(&Honest);
     assert!(trial.systematic().is_ok());
-    println!("{}", trial.tally);
     assert_eq!(trial.tally.amiss(), [""; 0]);
 }
 
