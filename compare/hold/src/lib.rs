@@ -2,7 +2,7 @@
 //! hand back and leave, every lent byte and the bytes around them, must be equal.
 
 pub mod call;
-pub mod command;
+mod command;
 pub mod compare;
 pub mod executes;
 pub mod fence;
@@ -12,8 +12,8 @@ pub mod listings;
 pub mod numbers;
 pub mod options;
 pub mod report;
-pub mod scene;
-pub mod segment;
+mod scene;
+mod segment;
 pub mod stripes;
 pub mod told;
 pub mod trial;
