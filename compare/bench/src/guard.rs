@@ -3,7 +3,6 @@
 use std::hint::black_box;
 use std::io;
 
-use crate::archive;
 use crate::bytes::{BLOCK, RUN, noise};
 use crate::options::Options;
 use crate::table::{Case, Output, Table, Verdict, measure};
@@ -90,7 +89,7 @@ fn case(data: &[u8], size: usize, limit: Option<f64>, ours: Guards, rust: Guards
 fn our_runs(data: &[u8], size: usize, results: &mut [u8]) {
     for (run, guards) in data.chunks(RUN).zip(results.chunks_mut(RUN / size * GUARD)) {
         // A refusal leaves the results as they were, and they are compared.
-        archive::guards(run, size as u64, guards);
+        archive::guards(run, size, guards);
     }
 }
 
@@ -146,7 +145,7 @@ fn first_difference(data: &[u8], size: usize) -> Option<usize> {
 #[derive(Clone, Copy, Debug)]
 struct Lengths {
     data: usize,
-    size: u64,
+    size: usize,
     out: usize,
 }
 
@@ -160,7 +159,7 @@ const UNFIT: [Lengths; 9] = [
     Lengths { data: 16, size: 8, out: 5 },
     Lengths { data: 16, size: 8, out: 6 },
     Lengths { data: 0, size: 8, out: 2 },
-    Lengths { data: 16, size: u64::MAX, out: 2 },
+    Lengths { data: 16, size: usize::MAX, out: 2 },
 ];
 
 /// Whether the archive answers 4 to lengths that do not fit, and writes nothing.

@@ -7,7 +7,6 @@ use std::ops::Range;
 
 use reference::{Description, Outcome};
 
-use crate::archive;
 use crate::bytes::{noise, repeats};
 use crate::options::Options;
 use crate::table::{Case, Output, Pass, Table, Verdict, measure};

@@ -3,7 +3,6 @@
 //! Exit status 1 if results differ, or with --strict if a ratio is over its
 //! limit; 2 for arguments it does not know; 3 if its output cannot be written.
 
-mod archive;
 mod bytes;
 mod commands;
 mod growth;

@@ -5,7 +5,6 @@ use std::ops::Range;
 
 use reference::Description;
 
-use crate::archive;
 use crate::bytes::{BLOCK, noise, repeats};
 use crate::options::Options;
 use crate::table::{Case, Output, Pass, Table, Verdict, measure};

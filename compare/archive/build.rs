@@ -9,7 +9,7 @@ fn main() {
     let folder = match env::var_os("LAMPTASSEL_LIB_DIR") {
         Some(folder) => PathBuf::from(folder),
         None => {
-            // bench, below compare, below the repository.
+            // archive, below compare, below the repository.
             let manifest = env::var_os("CARGO_MANIFEST_DIR").expect("cargo names the folder");
             let repository = Path::new(&manifest).ancestors().nth(2);
             repository.expect("two folders up").join("target/native")

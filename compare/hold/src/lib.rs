@@ -1,0 +1,19 @@
+//! Holds a library against the reference: both get the same calls, and what they
+//! hand back and leave, every lent byte and the bytes around them, must be equal.
+
+pub mod call;
+mod command;
+pub mod compare;
+pub mod executes;
+pub mod fence;
+pub mod formats;
+pub mod guards;
+pub mod listings;
+pub mod numbers;
+pub mod options;
+pub mod report;
+mod scene;
+mod segment;
+pub mod stripes;
+pub mod told;
+pub mod trial;

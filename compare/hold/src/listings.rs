@@ -1,0 +1,250 @@
+//! Calls for the listing of a record.
+
+use reference::{Description, listing};
+
+use crate::call::{Call, Function};
+use crate::numbers::Numbers;
+use crate::segment::{Intervals, SHAPES, Tags, any_good, blocks, stretch};
+use crate::trial::{Held, Put};
+
+/// The greatest length that a record may give.
+const LIMIT: usize = 65_532;
+
+/// The bytes of a record before its segment, its length apart.
+const HEAD: usize = 15;
+
+pub fn each(put: Put<'_>) -> Held {
+    let mut numbers = Numbers::new(5);
+    for (p, e) in SHAPES {
+        let desc = described(p, 8, e, 7, 3);
+        every_byte(&desc, &mut numbers, put)?;
+        every_mark(&desc, &mut numbers, put)?;
+        every_head(&desc, &mut numbers, put)?;
+    }
+    every_room(&mut numbers, put)?;
+    every_length(&mut numbers, put)?;
+    every_address(&mut numbers, put)?;
+    longest(&mut numbers, put)
+}
+
+fn described(p: u64, b: u64, e: u64, w: u64, n: u64) -> Description {
+    Description {
+        p,
+        b,
+        e,
+        w,
+        n,
+        ato: 0,
+    }
+}
+
+/// A segment in which every interval is right.
+fn right(desc: &Description, numbers: &mut Numbers) -> Vec<u8> {
+    let tags = Tags {
+        application: numbers.number() as u16 >> 1,
+        first: desc.w as u32,
+    };
+    blocks(desc, desc.n, tags, numbers)
+}
+
+/// A record's bytes with the length given.
+fn record(length: usize, version: u8, desc: &Description, segment: &[u8]) -> Vec<u8> {
+    let mut out = Vec::with_capacity(4 + HEAD + segment.len());
+    out.extend((length as u32).to_be_bytes());
+    out.extend([version, desc.p as u8, desc.e as u8]);
+    out.extend((desc.b as u16).to_be_bytes());
+    out.extend(desc.w.to_be_bytes());
+    out.extend((desc.n as u16).to_be_bytes());
+    out.extend(segment);
+    out
+}
+
+fn whole(desc: &Description, segment: &[u8]) -> Vec<u8> {
+    record(HEAD + segment.len(), 1, desc, segment)
+}
+
+fn list(input: &[u8], room: usize) -> Call {
+    Call::new(Function::List, &[], [input, &vec![0xC3; room]])
+}
+
+/// The call with some room to spare.
+fn list_all(input: &[u8]) -> Call {
+    list(input, listing(input).len() + 5)
+}
+
+/// A wrong bit in each byte of the segment, and of the record's head.
+fn every_byte(desc: &Description, numbers: &mut Numbers, put: Put<'_>) -> Held {
+    let input = whole(desc, &right(desc, numbers));
+    for place in 0..input.len() {
+        for bit in 0..8 {
+            let mut input = input.clone();
+            input[place] ^= 1 << bit;
+            put(list_all(&input))?;
+        }
+    }
+    Ok(())
+}
+
+/// The marks of an escape, or half of them, in each interval, beside a wrong guard
+/// in each other.
+fn every_mark(desc: &Description, numbers: &mut Numbers, put: Put<'_>) -> Held {
+    let sizes = Intervals::of(desc);
+    let segment = right(desc, numbers);
+    if sizes.step == sizes.data {
+        return put(list_all(&whole(desc, &segment)));
+    }
+    let count = segment.len() / sizes.step;
+    for marked in 0..count {
+        for wrong in 0..count {
+            for (from, to) in [(2, 4), (4, 8), (2, 8), (2, 3), (3, 4), (2, 7)] {
+                let mut segment = segment.clone();
+                segment[marked * sizes.step + sizes.data..][from..to].fill(0xFF);
+                segment[wrong * sizes.step] ^= 1;
+                put(list_all(&whole(desc, &segment)))?;
+            }
+        }
+    }
+    Ok(())
+}
+
+/// Each version, type and exponent, and block lengths and counts at their limits.
+fn every_head(desc: &Description, numbers: &mut Numbers, put: Put<'_>) -> Held {
+    let segment = right(desc, numbers);
+    let length = HEAD + segment.len();
+    for number in 0..=255 {
+        put(list_all(&record(length, number, desc, &segment)))?;
+        let p = number.into();
+        put(list_all(&whole(&Description { p, ..*desc }, &segment)))?;
+        let e = number.into();
+        put(list_all(&whole(&Description { e, ..*desc }, &segment)))?;
+    }
+    for b in [0, 1, 7, 9, 12, 16, 4_088, 4_096, 4_097, 4_104, 65_528] {
+        put(list_all(&whole(&Description { b, ..*desc }, &segment)))?;
+    }
+    for n in [0, 1, 2, 4, 0xFF, 0x100, 0x103, 65_535] {
+        put(list_all(&whole(&Description { n, ..*desc }, &segment)))?;
+    }
+    Ok(())
+}
+
+/// Every room from none to more than enough, for a listing and for each refusal.
+fn every_room(numbers: &mut Numbers, put: Put<'_>) -> Held {
+    let desc = described(1, 8, 0, 9, 3);
+    let segment = right(&desc, numbers);
+    let inputs = [
+        whole(&desc, &segment),
+        whole(&Description { p: 4, ..desc }, &segment),
+        whole(&desc, &segment[1..]),
+        Vec::new(),
+    ];
+    for input in inputs {
+        for room in 0..=listing(&input).len() + 3 {
+            put(list(&input, room))?;
+        }
+    }
+    Ok(())
+}
+
+/// Records cut at each byte, and lengths that are not those of the bytes.
+fn every_length(numbers: &mut Numbers, put: Put<'_>) -> Held {
+    let desc = described(1, 8, 0, 9, 3);
+    let segment = right(&desc, numbers);
+    let input = whole(&desc, &segment);
+    for cut in 0..input.len() {
+        put(list_all(&input[..cut]))?;
+        // The same with a length that is right.
+        if cut >= 4 {
+            let mut input = input[..cut].to_vec();
+            input[..4].copy_from_slice(&(cut as u32 - 4).to_be_bytes());
+            put(list_all(&input))?;
+        }
+    }
+    put(list_all(&[&input[..], &[0]].concat()))?;
+    let right = HEAD + segment.len();
+    let other = [0, 1, 14, 15, 16, right - 1, right + 1, LIMIT, LIMIT + 1];
+    let far = [right + (1 << 16), right + (1 << 24), u32::MAX as usize];
+    for length in other.into_iter().chain(far) {
+        put(list_all(&record(length, 1, &desc, &segment)))?;
+    }
+    for length in LIMIT - 20..LIMIT + 20 {
+        let segment = numbers.bytes(length - HEAD);
+        put(list_all(&record(length, 1, &desc, &segment)))?;
+    }
+    Ok(())
+}
+
+/// Addresses of each number of digits, near 2^32, and at the limit.
+fn every_address(numbers: &mut Numbers, put: Put<'_>) -> Held {
+    let tens = (0..20).map(|digits| 10u64.pow(digits) - 1);
+    let ends = [(1 << 32) - 2, (1 << 63) - 4, (1 << 63) - 3, (1 << 63) - 2];
+    for w in tens.chain(ends).chain([1 << 63, u64::MAX, u64::MAX - 1]) {
+        for (p, e) in SHAPES {
+            let desc = described(p, 8, e, w, 3);
+            let segment = right(&desc, numbers);
+            put(list_all(&whole(&desc, &segment)))?;
+        }
+    }
+    Ok(())
+}
+
+/// The longest records, and one block more than fits.
+fn longest(numbers: &mut Numbers, put: Put<'_>) -> Held {
+    for (p, e) in SHAPES {
+        for b in [8, 4_096] {
+            let stored = Intervals::of(&described(p, b, e, 0, 1)).stored();
+            let most = (LIMIT - HEAD) / stored;
+            for n in [most, most + 1] {
+                let desc = described(p, b, e, 99_990, n as u64);
+                let segment = right(&desc, numbers);
+                put(list_all(&whole(&desc, &segment)))?;
+            }
+        }
+    }
+    Ok(())
+}
+
+pub fn any(numbers: &mut Numbers) -> Call {
+    let desc = any_good(numbers, 3_000);
+    let mut segment = right(&desc, numbers);
+    for _ in 0..numbers.pick(&[0, 0, 1, 2, 5]) {
+        spoil(&desc, &mut segment, numbers);
+    }
+    let mut input = whole(&desc, &segment);
+    match numbers.below(16) {
+        0 => {
+            let place = numbers.place(4 + HEAD);
+            input[place] ^= 1 << numbers.below(8);
+        }
+        1 => stretch(&mut input, numbers),
+        2 => input.truncate(numbers.place(input.len())),
+        3 => input = numbers.bytes(input.len().min(40)),
+        4 => {
+            let place = numbers.place(4 + HEAD);
+            input[place] = numbers.number() as u8;
+        }
+        5 => {
+            stretch(&mut segment, numbers);
+            input = whole(&desc, &segment);
+        }
+        _ => {}
+    }
+    let needed = listing(&input).len();
+    let room = match numbers.below(4) {
+        0 => numbers.place(needed + 20),
+        1 => needed,
+        _ => needed + numbers.place(20),
+    };
+    list(&input, room)
+}
+
+/// A wrong bit anywhere, or marks of an escape in some interval.
+fn spoil(desc: &Description, segment: &mut [u8], numbers: &mut Numbers) {
+    let sizes = Intervals::of(desc);
+    if desc.p == 0 || numbers.once_in(2) {
+        segment[numbers.place(segment.len())] ^= 1 << numbers.below(8);
+        return;
+    }
+    let interval = numbers.place(segment.len() / sizes.step);
+    let (from, to) = numbers.pick(&[(2, 4), (4, 8), (2, 8)]);
+    segment[interval * sizes.step + sizes.data..][from..to].fill(0xFF);
+}

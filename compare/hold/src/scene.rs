@@ -1,0 +1,91 @@
+//! A command on a segment with its buffer.
+
+use reference::Description;
+
+use crate::call::{Call, Function};
+use crate::command::{Command, Operation};
+use crate::numbers::Numbers;
+use crate::segment::{Intervals, Tags, blocks};
+
+#[derive(Clone, Debug)]
+pub struct Scene {
+    pub desc: Description,
+    pub command: Command,
+    pub segment: Vec<u8>,
+    pub buffer: Vec<u8>,
+}
+
+impl Scene {
+    /// A scene in which every interval is as the command expects it and every
+    /// length is right. The description must be good.
+    pub fn right(desc: Description, command: Command, numbers: &mut Numbers) -> Self {
+        let known = if desc.p == 1 {
+            command.address as u32
+        } else {
+            command.first
+        };
+        let offset = command.address.wrapping_sub(desc.w) << desc.e;
+        // What the mask leaves out is not compared.
+        let application = command.application ^ (numbers.number() as u16 & !command.mask);
+        let tags = |first| Tags { application, first };
+        let segment = blocks(
+            &desc,
+            desc.n,
+            tags(known.wrapping_sub(offset as u32)),
+            numbers,
+        );
+        let count = u64::from(command.length).min(desc.n);
+        let buffer = if command.judges_buffer() {
+            blocks(&desc, count, tags(known), numbers)
+        } else {
+            numbers.data(buffer_length(&desc, &command, count))
+        };
+        Scene {
+            desc,
+            command,
+            segment,
+            buffer,
+        }
+    }
+
+    pub fn call(&self) -> Call {
+        self.call_by(&self.command.bytes())
+    }
+
+    /// The call with these bytes as its command.
+    pub fn call_by(&self, command: &[u8]) -> Call {
+        let lent = [&self.segment[..], command, &self.buffer[..]];
+        Call::described(Function::Execute, &self.desc, &[], lent)
+    }
+
+    /// The bytes whose intervals are judged: those that come in with their fields,
+    /// or else the segment's.
+    pub fn judged(&mut self) -> &mut Vec<u8> {
+        if self.command.judges_buffer() {
+            &mut self.buffer
+        } else {
+            &mut self.segment
+        }
+    }
+
+    /// The place of an interval in the judged bytes, from the transfer's first.
+    pub fn interval(&self, place: usize) -> usize {
+        let sizes = Intervals::of(&self.desc);
+        let start = if self.command.judges_buffer() {
+            0
+        } else {
+            (self.command.address - self.desc.w) as usize * sizes.stored()
+        };
+        start + place * sizes.step
+    }
+}
+
+/// The bytes that `count` blocks have in the buffer.
+pub fn buffer_length(desc: &Description, command: &Command, count: u64) -> usize {
+    let each = match (command.operation, command.code) {
+        (Operation::Verify, _) => 0,
+        (_, 0) => desc.b as usize,
+        _ => Intervals::of(desc).stored(),
+    };
+    count as usize * each
+}

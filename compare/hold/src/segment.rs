@@ -1,0 +1,227 @@
+//! Descriptions, and blocks that are right in every field.
+
+use reference::{Description, guard};
+
+use crate::numbers::Numbers;
+
+/// Each type with each exponent that it may have.
+pub const SHAPES: [(u64, u64); 10] = [
+    (0, 0),
+    (1, 0),
+    (2, 0),
+    (2, 1),
+    (2, 2),
+    (2, 3),
+    (3, 0),
+    (3, 1),
+    (3, 2),
+    (3, 3),
+];
+
+/// The tags of a run of intervals: one application tag, and reference tags that
+/// count from the first.
+#[derive(Clone, Copy, Debug)]
+pub struct Tags {
+    pub application: u16,
+    pub first: u32,
+}
+
+/// The sizes of a description's intervals.
+#[derive(Clone, Copy, Debug)]
+pub struct Intervals {
+    /// n, the intervals of a block.
+    pub each: usize,
+    /// The user data bytes of one.
+    pub data: usize,
+    /// The bytes of one with its fields.
+    pub step: usize,
+}
+
+impl Intervals {
+    pub fn of(desc: &Description) -> Self {
+        let each = 1 << desc.e;
+        let data = desc.b as usize / each;
+        let fields = if desc.p == 0 { 0 } else { 8 };
+        Intervals {
+            each,
+            data,
+            step: data + fields,
+        }
+    }
+
+    /// S, the bytes of a stored block.
+    pub fn stored(&self) -> usize {
+        self.each * self.step
+    }
+}
+
+/// Blocks with true guards and these tags; type 0 has data alone.
+pub fn blocks(desc: &Description, count: u64, tags: Tags, numbers: &mut Numbers) -> Vec<u8> {
+    let sizes = Intervals::of(desc);
+    let mut out = Vec::with_capacity(count as usize * sizes.stored());
+    for place in 0..count as usize * sizes.each {
+        let data = numbers.data(sizes.data);
+        out.extend(&data);
+        if desc.p != 0 {
+            out.extend(guard(&data).to_be_bytes());
+            out.extend(tags.application.to_be_bytes());
+            out.extend(tags.first.wrapping_add(place as u32).to_be_bytes());
+        }
+    }
+    out
+}
+
+/// Every bad description that is one number away from a good one, and the good
+/// ones at the limits.
+pub fn one_number_away(good: &Description) -> Vec<Description> {
+    let d = *good;
+    let mut out = Vec::new();
+    out.extend(PAST_TYPE.map(|p| Description { p, ..d }));
+    out.extend(PAST_BLOCK.map(|b| Description { b, ..d }));
+    out.extend(PAST_EXPONENT.map(|e| Description { e, ..d }));
+    out.extend(PAST_COUNT.map(|n| Description { n, ..d }));
+    out.extend(PAST_BIT.map(|ato| Description { ato, ..d }));
+    let ends = [1 << 32, 1 << 63, 0u64];
+    for end in ends {
+        for back in [d.n + 1, d.n, d.n - 1, 1, 0] {
+            out.push(Description {
+                w: end.wrapping_sub(back),
+                ..d
+            });
+        }
+    }
+    out
+}
+
+const PAST_TYPE: [u64; 12] = [
+    0,
+    1,
+    2,
+    3,
+    4,
+    5,
+    0xFF,
+    0x100,
+    0x101,
+    (1 << 32) + 1,
+    (1 << 63) + 2,
+    u64::MAX,
+];
+const PAST_BLOCK: [u64; 20] = [
+    0,
+    1,
+    4,
+    7,
+    8,
+    9,
+    12,
+    16,
+    4_088,
+    4_095,
+    4_096,
+    4_097,
+    4_100,
+    4_104,
+    (1 << 16) + 8,
+    (1 << 32) + 8,
+    (1 << 63) + 8,
+    u64::MAX - 7,
+    u64::MAX - 6,
+    u64::MAX,
+];
+const PAST_EXPONENT: [u64; 12] = [
+    0,
+    1,
+    2,
+    3,
+    4,
+    5,
+    63,
+    64,
+    0x100,
+    (1 << 32) + 1,
+    1 << 63,
+    u64::MAX,
+];
+const PAST_COUNT: [u64; 14] = [
+    0,
+    1,
+    2,
+    3,
+    65_535,
+    65_536,
+    65_537,
+    (1 << 32) - 1,
+    1 << 32,
+    (1 << 32) + 1,
+    (1 << 63) - 1,
+    1 << 63,
+    (1 << 63) + 1,
+    u64::MAX,
+];
+const PAST_BIT: [u64; 8] = [0, 1, 2, 3, 0x100, 0x101, (1 << 32) + 1, u64::MAX];
+
+/// A description within the limits, biased to them. `bytes` bounds its segment.
+pub fn any_good(numbers: &mut Numbers, bytes: u64) -> Description {
+    let (p, e) = numbers.pick(&SHAPES);
+    let b = match numbers.below(16) {
+        0 => numbers.pick(&[512, 520, 4_088, 4_096]),
+        1 => 8 * (1 + numbers.below(512)),
+        _ => 8 * (1 + numbers.below(4)),
+    };
+    let most = (bytes / (b + 64)).clamp(1, 65_536);
+    let n = match numbers.below(16) {
+        0 => 1 + numbers.below(most),
+        _ => 1 + numbers.below(most.min(5)),
+    };
+    let last = (1 << 63) - n;
+    let w = match numbers.below(8) {
+        0 => 0,
+        1 => last,
+        2 => last - numbers.below(4),
+        3 => numbers.below(last + 1),
+        4 => (1 << 32) - numbers.below(8),
+        5 => numbers.edge().min(last),
+        _ => numbers.below(100),
+    };
+    Description {
+        p,
+        b,
+        e,
+        w,
+        n,
+        ato: numbers.below(2),
+    }
+}
+
+/// Puts another number into one field of a description.
+pub fn spoil(desc: &mut Description, numbers: &mut Numbers) {
+    let field = match numbers.below(6) {
+        0 => &mut desc.p,
+        1 => &mut desc.b,
+        2 => &mut desc.e,
+        3 => &mut desc.w,
+        4 => &mut desc.n,
+        _ => &mut desc.ato,
+    };
+    *field = match numbers.below(3) {
+        0 => numbers.edge(),
+        1 => numbers.beside(*field),
+        // The same again if it is cut.
+        _ => field.wrapping_add(1 << numbers.pick(&[8, 16, 32, 63])),
+    };
+}
+
+/// Makes bytes longer or shorter than they are.
+pub fn stretch(bytes: &mut Vec<u8>, numbers: &mut Numbers) {
+    let length = bytes.len();
+    let other = match numbers.below(6) {
+        0 => 0,
+        1 => length + 1,
+        2 => length.saturating_sub(1),
+        3 => length + 8,
+        4 => length.saturating_sub(8),
+        _ => numbers.place(2 * length + 40),
+    };
+    bytes.resize(other, 0x77);
+}
