@@ -17,6 +17,7 @@ use Rattle.words.proofs.Parts.{part-bytes}
 use Rattle.answer.specs.declared.Answer.{Answer}
 use Rattle.answer.specs.declared.Answer.the-variants as answers
 use Rattle.command.specs.declared.Operation.{Operation}
+use Rattle.command.specs.declared.Operation.the-variants.{Read, Write, Verify}
 use Rattle.command.specs.declared.Form.{Form}
 use Rattle.command.specs.declared.Form.the-variants.{Ten, Twelve, Sixteen, ThirtyTwo}
 use Rattle.command.specs.declared.Named.{Named}
@@ -24,7 +25,7 @@ use Rattle.command.specs.declared.Named.the-variants.{Known, Unknown}
 use Rattle.command.specs.declared.Layout.{Layout}
 use Rattle.command.specs.declared.Command.{Command}
 use Rattle.command.specs.declared.Decoded.the-variants.{Served, Refused}
-use Rattle.command.specs.Command.{Row, byteZero, serviceAction, find, recognise, layoutOf, isLong, fields, decodeAs, decode}
+use Rattle.command.specs.Command.{checkBits, Row, byteZero, serviceAction, find, recognise, layoutOf, isLong, fields, decodeAs, decode}
 
 -- ---- the sizes of the four forms
 
@@ -77,14 +78,15 @@ module _ (c : List ℕ) (some : length c ≡ 0 → ⊥) where
   recognise-action e h = rw (ne-eqb (length c) 0 some, eq-eqb (getD c 0 0) 0x7F e, le-ltb (length c) 10 h)
 
 -- ---- the fields
-pub asked : (o : Operation) (f : Form) (c : List ℕ) {l : Layout} {long : Bool} {a n t p m : ℕ} → l ≡ layoutOf f → long ≡ isLong f
+pub asked : (o : Operation) (f : Form) (c : List ℕ) {l : Layout} {long : Bool} {k a n t p m : ℕ} → l ≡ layoutOf f → long ≡ isLong f
+    → k ≡ checkBits o (getD c (l .protect) 0)
     → a ≡ numberAt (l .address) (l .addressed) c → n ≡ numberAt (l .length) (l .lengthened) c
     → t ≡ cond long (numberAt 20 4 c) 0 → p ≡ cond long (numberAt 24 2 c) 0 → m ≡ cond long (numberAt 26 2 c) 0
     → record {
       operation = o;
       long = long;
       code = getD c (l .protect) 0 / 32;
-      check = getD c (l .protect) 0 / 2 % 4;
+      check = k;
       address = a;
       length = n;
       tag = t;
@@ -92,7 +94,7 @@ pub asked : (o : Operation) (f : Form) (c : List ℕ) {l : Layout} {long : Bool}
       mask = m;
     } ≡ fields o f c
 unfolding fields
-asked o f c el es ea en et ep em = rw (ea, en, et, ep, em, el, es)
+asked o f c el es ek ea en et ep em = rw (ek, ea, en, et, ep, em, el, es)
 
 -- ---- the refusals
 passed : (b : Bool) (x : ℕ) → (b ≡ true → x ≡ 0x18) → (b && not (eqb x 0x18)) ≡ false
@@ -142,6 +144,11 @@ tag-below : (b : Bool) (x n : ℕ) → x < n → cond b x 0 < n
 tag-below true x n h = h
 tag-below false x n h = omega arith
 
+check-below : (o : Operation) (p : ℕ) → checkBits o p < 4
+check-below Read p = lit< tt
+check-below Write p = lit< tt
+check-below Verify p = omega arith
+
 pub record Bounded (k : Command) : Type 0 where
   pub code : k .code < 8
   pub check : k .check < 4
@@ -157,7 +164,7 @@ fields-bounded o f c p =
     let protect = p (layoutOf f .protect) in
     record {
       code = omega arith;
-      check = omega arith;
+      check = check-below o _;
       address = number-below _ _ 8 c (within f .addressed) p;
       length = number-below _ _ 4 c (within f .lengthened) p;
       tag = tag-below (isLong f) _ _ (number-below 20 4 4 c (lit≤ tt) p);

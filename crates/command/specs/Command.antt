@@ -63,8 +63,14 @@ isLong Twelve = false
 isLong Sixteen = false
 isLong ThirtyTwo = true
 
--- "expected first reference tag in 20-23, expected application tag in 24-25, application mask in 26-27" of the 32-byte
--- form; protect code in bits 7-5 of the protect byte, byte-check in bits 2-1
+-- "VERIFY has byte-check bits 2-1 of the protect byte"
+abbrev pub checkBits : Operation → ℕ → ℕ
+checkBits Read p = 0
+checkBits Write p = 0
+checkBits Verify p = p / 2 % 4
+
+-- protect code in bits 7-5 of the protect byte; "expected first reference tag in 20-23, expected application tag in 24-25,
+-- application mask in 26-27" of the 32-byte form
 unfoldable pub fields : Operation → Form → List ℕ → Command
 fields o f c =
     let l = layoutOf f in
@@ -72,7 +78,7 @@ fields o f c =
       operation = o;
       long = isLong f;
       code = getD c (l .protect) 0 / 32;
-      check = getD c (l .protect) 0 / 2 % 4;
+      check = checkBits o (getD c (l .protect) 0);
       address = numberAt (l .address) (l .addressed) c;
       length = numberAt (l .length) (l .lengthened) c;
       tag = cond (isLong f) (numberAt 20 4 c) 0;

@@ -2,7 +2,7 @@
 ghost use mathlib.Core.Path.{_≡_};
 ghost use Prim.Native.Nat.{_≤_};
 ghost use lib.ListN.{length};
-ghost use Rattle.command.specs.Command.{recognise, layoutOf, isLong, fields, decodeAs, decode};
+ghost use Rattle.command.specs.Command.{checkBits, recognise, layoutOf, isLong, fields, decodeAs, decode};
 use answer::Answer;
 
 pub enum Operation {
@@ -139,6 +139,17 @@ fn is_long(f: Form) -> bool
     }
 }
 
+// The byte-check bits of the protect byte, which VERIFY alone has.
+fn check_bits(o: Operation, protects: u8) -> u8
+    ensures { λ r. ⌜ r ≡ checkBits o protects ⌝ }
+{
+    match o {
+        Operation::Read => 0,
+        Operation::Write => 0,
+        Operation::Verify => protects / 2 % 4,
+    }
+}
+
 // What the command asks, of bytes that are as many as its form has.
 fn parsed(o: Operation, f: Form, c: &[u8]) -> Command
     requires { ⌜ length (now c) ≡ layoutOf f .bytes ⌝ }
@@ -147,6 +158,7 @@ fn parsed(o: Operation, f: Form, c: &[u8]) -> Command
     let l = laid_out(f);
     let protect = l.protect;
     let protects = c[protect];
+    let check = check_bits(o, protects);
     let address = words::read_at(c, l.address, l.addressed);
     let length = words::read_at(c, l.length, l.lengthened);
     if is_long(f) {
@@ -154,7 +166,7 @@ fn parsed(o: Operation, f: Form, c: &[u8]) -> Command
             operation: o,
             long: true,
             code: protects / 32,
-            check: protects / 2 % 4,
+            check,
             address,
             length,
             tag: words::read4(c, 20),
@@ -166,7 +178,7 @@ fn parsed(o: Operation, f: Form, c: &[u8]) -> Command
         operation: o,
         long: false,
         code: protects / 32,
-        check: protects / 2 % 4,
+        check,
         address,
         length,
         tag: 0,

@@ -61,18 +61,25 @@ table9 =
     ∷ row (is 0b011) (is 1) (is 0b11) (is 0b000) (illegal Parameter)
     ∷ row (is 0b011) (is 1) (is 0b11) (is 0b001) (formatted 3)
     ∷ row (is 0b011) (is 1) (is 0b11) (above 0b001) (illegal Parameter)
+    -- "Reserved": "6 if .. SPT is neither 0, 1 nor 3"
+    ∷ row (is 0b010) (is 1) (only (0b10 ∷ 0b11 ∷ [])) any (illegal Field)
+    ∷ row (only (0b100 ∷ 0b101 ∷ 0b110 ∷ 0b111 ∷ [])) (is 1) (only (0b10 ∷ 0b11 ∷ [])) any (illegal Field)
     ∷ []
 
--- the first row that all four meet; where none is met, SPT is one that the table does not have: "6 if .. SPT is neither 0, 1 nor 3"
+-- the first row that all four meet; numbers within the ranges meet one
 abbrev pub look : List Row → ℕ → ℕ → ℕ → ℕ → Choice
 look [] s p f u = illegal Field
 look (r ∷ rs) s p f u =
     cond (meets (r .spt) s && (meets (r .protect) p && (meets (r .fmtpinfo) f && meets (r .usage) u))) (r .gives) (look rs s p f u)
 
-unfoldable pub choiceOf : ℕ → ℕ → ℕ → ℕ → Choice
-choiceOf s p f u = cond (leb s 7 && (leb p 1 && (leb f 3 && leb u 7))) (look table9 s p f u) (illegal Field)
+-- "(0-7, 0-1, 0-3, 0-7; outside these 6)"
+abbrev pub ranges : ℕ → ℕ → ℕ → ℕ → Bool
+ranges s p f u = leb s 7 && (leb p 1 && (leb f 3 && leb u 7))
 
--- The paper's own sentences, which `proofs/Sentences.antt` shows to choose the same.
+unfoldable pub choiceOf : ℕ → ℕ → ℕ → ℕ → Choice
+choiceOf s p f u = cond (ranges s p f u) (look table9 s p f u) (illegal Field)
+
+-- The paper's own sentences, which `proofs/Demands.antt` shows to choose the same.
 -- "type .. for usage .., else 12"
 abbrev pub byUsage : ℕ → ℕ → ℕ → Choice
 byUsage u wanted t = cond (eqb u wanted) (formatted t) (illegal Parameter)

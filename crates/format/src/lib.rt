@@ -1,11 +1,9 @@
 // The format choice, and filling a fresh segment.
 ghost use mathlib.Core.Path.{_≡_};
-ghost use mathlib.Core.Bool.{_&&_};
 ghost use Prim.Native.Nat.{_*_, _+_};
-ghost use lib.Dec.{leb};
 ghost use lib.ListN.{length, replicate};
 ghost use Rattle.segment.specs.Segment.{Segment, lengthOf};
-ghost use Rattle.format.specs.Choice.{choiceOf, sentences, supports, byUsage, formatted, illegal};
+ghost use Rattle.format.specs.Choice.{choiceOf, ranges, sentences, supports, byUsage, formatted, illegal};
 ghost use Rattle.format.specs.Fresh.{filled, filledOf, freshInterval, freshIntervals};
 use answer::Answer;
 use segment::Description;
@@ -54,7 +52,7 @@ fn supported(protect: u64, spt: u64) -> bool
 }
 
 fn in_range(spt: u64, protect: u64, fmtpinfo: u64, usage: u64) -> bool
-    ensures { λ r. ⌜ r ≡ (leb spt 7 && (leb protect 1 && (leb fmtpinfo 3 && leb usage 7))) ⌝ }
+    ensures { λ r. ⌜ r ≡ ranges spt protect fmtpinfo usage ⌝ }
 {
     if 7 < spt {
         return false;

@@ -2,4 +2,3 @@ pub mod Remainder
 pub mod Division
 pub mod ByTable
 pub mod Laws
-pub mod Vectors

@@ -13,29 +13,36 @@ laid-out-requires c κs = search needs
 shared-slice-read-protects : tie.Need-shared-slice-read-protects
 shared-slice-read-protects c = omega (arith, laid-within (c .before .before .before .args .f) (c .before .laid-out .ensures) (c .before .before .before .pre))
 
+check-bits-requires : tie.Need-check-bits-requires
+check-bits-requires c κs = search needs
+
 read-at-requires : tie.Need-read-at-requires
-read-at-requires c κs = omega (arith, laid-within (c .before .before .before .args .f) (c .before .laid-out .ensures) (c .before .before .before .pre))
+read-at-requires c κs = omega (arith, laid-within (c .before .before .before .before .args .f) (c .before .before .laid-out .ensures) (c .before .before .before .before .pre))
 
 read-at-requires-2 : tie.Need-read-at-requires-2
-read-at-requires-2 c κs = omega (arith, laid-within (c .before .before .before .before .args .f) (c .before .before .laid-out .ensures) (c .before .before .before .before .pre))
+read-at-requires-2 c κs = omega (arith, laid-within (c .before .before .before .before .before .args .f) (c .before .before .before .laid-out .ensures) (c .before .before .before .before .before .pre))
 
 is-long-requires : tie.Need-is-long-requires
 is-long-requires c κs = search needs
 
 read4-requires : tie.Need-read4-requires
-read4-requires c κs = omega (arith, within (c .before .before .before .before .before .before .before .args .f) .tags (sym (c .before .is-long .ensures) ∙ c .if1 .taken))
+read4-requires c κs = omega (arith, within (c .before .before .before .before .before .before .before .before .args .f) .tags (sym (c .before .is-long .ensures) ∙ c .if1 .taken))
 
 read2-requires : tie.Need-read2-requires
-read2-requires c κs = omega (arith, within (c .before .before .before .before .before .before .before .before .args .f) .tags (sym (c .before .before .is-long .ensures) ∙ c .before .if1 .taken))
+read2-requires c κs = omega (arith, within (c .before .before .before .before .before .before .before .before .before .args .f) .tags (sym (c .before .before .is-long .ensures) ∙ c .before .if1 .taken))
 
 read2-requires-2 : tie.Need-read2-requires-2
-read2-requires-2 c κs = omega (arith, within (c .before .before .before .before .before .before .before .before .before .args .f) .tags (sym (c .before .before .before .is-long .ensures) ∙ c .before .before .if1 .taken))
+read2-requires-2 c κs = omega (arith, within (c .before .before .before .before .before .before .before .before .before .before .args .f) .tags (sym (c .before .before .before .is-long .ensures) ∙ c .before .before .if1 .taken))
 
 returns : tie.Need-returns
-returns c = asked _ _ _ (c .before .before .before .before .before .before .before .before .laid-out .ensures) (sym (c .before .before .before .if1 .taken) ∙ c .before .before .before .before .is-long .ensures) (c .before .before .before .before .before .before .read-at .ensures) (c .before .before .before .before .before .read-at2 .ensures) (c .before .before .read4 .ensures) (c .before .read2 .ensures) (c .read22 .ensures)
+returns c =
+    asked _ _ _ (c .before .before .before .before .before .before .before .before .before .laid-out .ensures) (sym (c .before .before .before .if1 .taken) ∙ c .before .before .before .before .is-long .ensures) (c .before .before .before .before .before .before .before .check-bits .ensures)
+    (c .before .before .before .before .before .before .read-at .ensures) (c .before .before .before .before .before .read-at2 .ensures) (c .before .before .read4 .ensures) (c .before .read2 .ensures) (c .read22 .ensures)
 
 returns-2 : tie.Need-returns-2
-returns-2 c = asked _ _ _ (c .before .before .before .before .before .laid-out .ensures) (sym (c .if1 .left) ∙ c .before .is-long .ensures) (c .before .before .before .read-at .ensures) (c .before .before .read-at2 .ensures) refl refl refl
+returns-2 c =
+    asked _ _ _ (c .before .before .before .before .before .before .laid-out .ensures) (sym (c .if1 .left) ∙ c .before .is-long .ensures) (c .before .before .before .before .check-bits .ensures)
+    (c .before .before .before .read-at .ensures) (c .before .before .read-at2 .ensures) refl refl refl
 
 pub parsed-spec : {M : Type 1} → statement M
 parsed-spec =
@@ -43,6 +50,7 @@ parsed-spec =
     (tie.spec
     laid-out-requires
     shared-slice-read-protects
+    check-bits-requires
     read-at-requires
     read-at-requires-2
     is-long-requires

@@ -1,0 +1,81 @@
+-- "No other bit changes an answer."
+-- Assumes nothing.
+use mathlib.Core.Path.{_≡_, refl, sym, ap, _∙_}
+use mathlib.Core.Bool.{Bool, true, false, not, _&&_, cond}
+use mathlib.Core.List.{List}
+use Prim.Native.Nat.{ℕ, _/_}
+use borrow.Author.Tests.{eqb-true}
+use lib.Dec.{eqb, ltb}
+use lib.ListN.{length, getD}
+use Rattle.words.specs.BigEndian.{numberAt, number}
+use Rattle.answer.specs.declared.Answer.the-variants as answers
+use Rattle.command.specs.declared.Operation.{Operation}
+use Rattle.command.specs.declared.Form.{Form}
+use Rattle.command.specs.declared.Named.{Named}
+use Rattle.command.specs.declared.Named.the-variants.{Known, Unknown}
+use Rattle.command.specs.declared.Decoded.the-variants.{Served, Refused}
+use Rattle.command.specs.Command.{layoutOf, isLong, find, byteZero, serviceAction, recognise, fields, decodeAs, decode}
+use Rattle.command.specs.Bits.{SameAt, SameColumns}
+use Rattle.command.proofs.Laws.{decode-known, decode-unknown}
+
+same-number : (at n : ℕ) (c c′ : List ℕ) → SameAt at n c c′ → numberAt at n c ≡ numberAt at n c′
+unfolding numberAt
+same-number at n c c′ e = ap number e
+
+-- what only the 32-byte form has
+same-long : (b : Bool) (x y : ℕ) → (b ≡ true → x ≡ y) → cond b x 0 ≡ cond b y 0
+same-long true x y e = e refl
+same-long false x y e = refl
+
+same-seven : (b : Bool) (x y : ℕ) → (b ≡ true → x ≡ y) → (b && not (eqb x 0x18)) ≡ (b && not (eqb y 0x18))
+same-seven true x y e = rw (e refl) refl
+same-seven false x y e = refl
+
+module _ (o : Operation) (f : Form) (c c′ : List ℕ) (s : SameColumns o f c c′) where
+  same-fields : fields o f c ≡ fields o f c′
+  unfolding fields
+  same-fields =
+      rw (
+        s .code,
+        s .check,
+        same-number _ _ c c′ (s .address),
+        same-number _ _ c c′ (s .blocks),
+        same-long (isLong f) (numberAt 20 4 c) (numberAt 20 4 c′) (λ l. same-number 20 4 c c′ (s .tag l)),
+        same-long (isLong f) (numberAt 24 2 c) (numberAt 24 2 c′) (λ l. same-number 24 2 c c′ (s .application l)),
+        same-long (isLong f) (numberAt 26 2 c) (numberAt 26 2 c′) (λ l. same-number 26 2 c c′ (s .mask l)),
+      ) refl
+
+  same-decoded : decodeAs o f c ≡ decodeAs o f c′
+  unfolding decodeAs
+  same-decoded = rw (s .long, same-seven (isLong f) (getD c 7 0) (getD c′ 7 0) (s .seven), same-fields) refl
+
+-- the operation and the form are in byte 0 and, for 7Fh, the service action; no other byte is looked at for them
+pub same-operation : (c c′ : List ℕ) → length c ≡ length c′ → getD c 0 0 ≡ getD c′ 0 0 → (getD c′ 0 0 ≡ 0x7F → SameAt 8 2 c c′)
+    → recognise c ≡ recognise c′
+unfolding recognise
+same-operation c c′ long zeroth action = rw (long, zeroth) (by (eqb (getD c′ 0 0) 0x7F) refl)
+  where
+    empty : Bool
+    empty = eqb (length c′) 0
+
+    short : Bool
+    short = ltb (length c′) 10
+
+    by : (b : Bool) → eqb (getD c′ 0 0) 0x7F ≡ b
+        → cond empty (Unknown answers.CommandLength) (cond b (cond short (Unknown answers.CommandLength) (find (numberAt 8 2 c) serviceAction)) (find (getD c′ 0 0) byteZero))
+        ≡ cond empty (Unknown answers.CommandLength) (cond b (cond short (Unknown answers.CommandLength) (find (numberAt 8 2 c′) serviceAction)) (find (getD c′ 0 0) byteZero))
+    by true e = rw (same-number 8 2 c c′ (action (eqb-true (getD c′ 0 0) 0x7F e))) refl
+    by false e = refl
+
+-- commands that ask for the same operation in the same form, and are the same in the table's columns, ask the same
+pub no-other-bit : (c c′ : List ℕ) (o : Operation) (f : Form) → recognise c ≡ Known o f → recognise c′ ≡ Known o f → SameColumns o f c c′
+    → decode c ≡ decode c′
+no-other-bit c c′ o f e e′ s = decode-known c e ∙ same-decoded o f c c′ s ∙ sym (decode-known c′ e′)
+
+-- commands whose operation is not served, or not to be seen, are refused alike, whatever else they hold
+pub not-served-alike : (c c′ : List ℕ) → recognise c ≡ recognise c′ → ((o : Operation) (f : Form) → recognise c ≡ Known o f → ⊥) → decode c ≡ decode c′
+not-served-alike c c′ e n = by (recognise c) refl
+  where
+    by : (x : Named) → recognise c ≡ x → decode c ≡ decode c′
+    by (Known o f) k = absurd (n o f k)
+    by (Unknown a) k = decode-unknown c k ∙ sym (decode-unknown c′ (sym e ∙ k))
