@@ -13,7 +13,8 @@
  *   only read. What lies behind any other pointer must overlap nothing else that is lent;
  *   so `address` and `place` are two places. No alignment of buffers is asked for.
  * - Any answer but LAMPTASSEL_GOOD leaves every lent byte as it was. Only `*address`,
- *   `*place` and `*kind` are written with every answer.
+ *   `*place` and `*kind` are written with every answer. (lamptassel_list gives no answer's
+ *   number: it prints every record, a refused one in one line.)
  * - Nothing is kept after the call: no allocation, no global state, no lock. Any number
  *   of threads may call at once, as long as nobody else touches a buffer during the call
  *   that writes it, or writes one during a call that reads it.
