@@ -78,25 +78,7 @@ isGood Size = false
 abbrev pub orElse : Answer → Answer → Answer
 orElse a b = cond (isGood a) b a
 
--- key, code and qualifier, two hexadecimal digits each: 05/20/00 is 0x05_20_00; 0 where the table has none
-abbrev pub senseOf : Answer → ℕ
-senseOf Good = 0
-senseOf Description = 0
-senseOf Segment = 0
-senseOf CommandLength = 0
-senseOf BufferLength = 0
-senseOf Operation = 0x05_20_00
-senseOf Field = 0x05_24_00
-senseOf Address = 0x05_21_00
-senseOf (Guard a p) = 0x0B_10_01
-senseOf (Application a p) = 0x0B_10_02
-senseOf (Reference a p) = 0x0B_10_03
-senseOf Stripe = 0
-senseOf Parameter = 0x05_26_00
-senseOf Listing = 0
-senseOf Size = 0
-
--- the same by the number: | no. | sense |
+-- "| no. | sense |": key, code and qualifier, two hexadecimal digits each (05/20/00 is 0x05_20_00); 0 where the table has none
 abbrev pub senseNumbered : ℕ → ℕ
 senseNumbered n =
     cond (eqb n 5) 0x05_20_00
@@ -104,3 +86,6 @@ senseNumbered n =
     (cond (eqb n 7) 0x05_21_00
     (cond (eqb n 8) 0x0B_10_01
     (cond (eqb n 9) 0x0B_10_02 (cond (eqb n 10) 0x0B_10_03 (cond (eqb n 12) 0x05_26_00 0))))))
+
+abbrev pub senseOf : Answer → ℕ
+senseOf a = senseNumbered (numberOf a)
