@@ -4,3 +4,4 @@ pub mod BlockLaws
 pub mod RecordLaws
 pub mod ListingLaws
 pub mod Demands
+pub mod States
