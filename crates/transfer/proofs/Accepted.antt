@@ -17,7 +17,7 @@ use Rattle.answer.specs.declared.Answer.the-variants as answers
 use Rattle.segment.specs.declared.Description.{Description}
 use Rattle.segment.specs.Segment.{intervalsOf, sizeOf}
 use Rattle.command.specs.declared.Command.{Command}
-use Rattle.command.specs.declared.Operation.the-variants.{Read, Write}
+use Rattle.command.specs.declared.Operation.the-variants.{Write}
 use Rattle.judge.specs.declared.Rules.{Rules}
 use Rattle.judge.specs.declared.Place.{Place}
 use Rattle.judge.specs.declared.Escape.the-variants.{Never}
@@ -30,23 +30,9 @@ use Rattle.blocks.specs.Blocks.{fieldBytes, withField, later, storedBlock, stor
 use Rattle.blocks.proofs.Laws.{field-length, interval-length, block-length, interval-read-on, interval-field-on, guard-there, application-there, reference-there}
 use Rattle.checks.specs.Checks.{columnsOf, applicationKnown, referenceKnown, firstTag, escapeOf, rulesOf, startOf}
 use Rattle.checks.specs.Inserted.{insertedApplication, insertedReference, marksOf}
-use Rattle.transfer.proofs.Checked.{intervalAt, placeAt, skipped, verdictAt}
+use Rattle.transfer.specs.Checked.{intervalAt, placeAt, skipped, verdictAt}
+use Rattle.transfer.specs.Compared.{asRead}
 use Rattle.transfer.proofs.Wrong.{blocks-good}
-
--- a READ that asks as a command asks
-abbrev pub asRead : Command → Command
-asRead c =
-    record {
-      operation = Read;
-      long = c .long;
-      code = c .code;
-      check = c .check;
-      address = c .address;
-      length = c .length;
-      tag = c .tag;
-      application = c .application;
-      mask = c .mask;
-    }
 
 -- ---- pieces that are each judged good, one behind the other
 module _ {M : Type 0} (judge : Place → List ℕ → Answer) (next : Place → Place) (piece : M → List ℕ → List ℕ) (on : M → M) (P Q : ℕ) (F : Place → M → Type 0)

@@ -27,7 +27,7 @@ use Rattle.command.proofs.Laws.{Bounded, served-bounded}
 use Rattle.judge.specs.FirstOf.{firstOf}
 use Rattle.judge.specs.Judge.{dataOf, fieldOf, guardWrong, applicationWrong, referenceWrong, judgeInterval, judgeBlocks}
 use Rattle.judge.proofs.FirstLaws.{good-or}
-use Rattle.judge.proofs.PieceLaws.{Verdict}
+use Rattle.judge.specs.Verdict.{Verdict}
 use Rattle.checks.specs.Checks.{rulesOf, startOf, firstTag}
 use Rattle.admission.specs.declared.Admitted.{Admitted}
 use Rattle.admission.specs.declared.Admitted.the-variants.{Refused, Go}
@@ -35,11 +35,12 @@ use Rattle.admission.specs.Admission.{typeRules, codeRule, checkRule, rangeRule
 use Rattle.admission.specs.Ready.{Ready}
 use Rattle.admission.proofs.Ready.{admitted-ready}
 use Rattle.transfer.specs.Transfer.{Outcome, outcome, blocksOf, whole, judgedIn, judgedFor, judged, handed, received, overwritten, performedFor, performed, executedAs, executed}
+use Rattle.transfer.specs.Compared.{Alike, Beside, asRead}
 use Rattle.transfer.proofs.Shapes.{whole-code, whole-not, received-whole, judged-plain, judged-fields}
-use Rattle.transfer.proofs.Checked.{underCheck, checkedBlocks, intervalAt, placeAt, verdictAt, FirstWrongInterval}
+use Rattle.transfer.specs.Checked.{underCheck, checkedBlocks, intervalAt, placeAt, verdictAt, FirstWrongInterval}
 use Rattle.transfer.proofs.Wrong.{blocks-good, blocks-wrong, interval-verdict}
-use Rattle.transfer.proofs.Accepted.{asRead, inserted-accepted, received-accepted}
-use Rattle.transfer.proofs.Stored.{Beside, enough, inserted, beside-itself, overwritten-beside, overwritten-there, handed-back, same-blocks}
+use Rattle.transfer.proofs.Accepted.{inserted-accepted, received-accepted}
+use Rattle.transfer.proofs.Stored.{enough, inserted, beside-itself, overwritten-beside, overwritten-there, handed-back, same-blocks}
 
 in-table : (a : Answer) → numberOf a ≤ 14
 in-table answers.Good = lit≤ tt
@@ -97,10 +98,6 @@ module _ (a : Answer) (d : Description) (c : Command) (segment buffer : List ℕ
   answer-for Read = refl
   answer-for Write = refl
   answer-for Verify = refl
-
--- two segments with the same blocks of the transfer
-abbrev Alike : Outcome → Outcome → Type 0
-Alike x y = (x .answer ≡ y .answer) × (x .buffer ≡ y .buffer)
 
 alike-for : (d : Description) (c : Command) (s s′ buffer : List ℕ) → blocksOf d c s ≡ blocksOf d c s′ → (o : Operation) → (o ≡ Write → ⊥)
     → Alike (performedFor o (judgedFor o d c s buffer) d c s buffer) (performedFor o (judgedFor o d c s′ buffer) d c s′ buffer)

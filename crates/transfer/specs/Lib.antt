@@ -1,1 +1,3 @@
 pub mod Transfer
+pub mod Checked
+pub mod Compared

@@ -24,13 +24,15 @@ underCheck Read d c segment buffer = blocksOf d c segment
 underCheck Verify d c segment buffer = blocksOf d c segment
 underCheck Write d c segment buffer = buffer
 
--- how many blocks are checked: all, but none in type 0 and none of a WRITE with 000
+-- "WRITE checks the incoming ones for codes other than 000; for 000 it has none"; "Type 0 checks nothing.": how many blocks
+-- are checked
 abbrev pub checkedBlocks : Operation → Description → Command → ℕ
 checkedBlocks Read d c = cond (eqb (d .kind) 0) 0 (c .length)
 checkedBlocks Verify d c = cond (eqb (d .kind) 0) 0 (c .length)
 checkedBlocks Write d c = cond (eqb (c .code) 0) 0 (cond (eqb (d .kind) 0) 0 (c .length))
 
--- the bytes from block j on, and from its interval i on
+-- "A block has n = 2^e intervals of B/n data bytes. For types 1 to 3 each is followed by eight bytes": the bytes from block j
+-- on, and from its interval i on
 abbrev pub blockAt : Description → List ℕ → ℕ → List ℕ
 blockAt d s j = drop (j * (intervalsOf d * (sizeOf d + 8))) s
 
@@ -51,6 +53,8 @@ placeAt d c j i =
 abbrev pub skipped : Description → Command → List ℕ → ℕ → Bool
 skipped d c s j = anyEscapes (rulesOf d c .escape) (sizeOf d) (intervalsOf d) (blockAt d s j)
 
+-- what is wrong with interval i of block j, and good where it is right or not checked: "then intervals in order, and in one
+-- interval guard, application, reference"
 abbrev pub verdictAt : Description → Command → List ℕ → ℕ → ℕ → Answer
 verdictAt d c s j i = cond (skipped d c s j) answers.Good (judgeInterval (rulesOf d c) (placeAt d c j i) (intervalAt d s j i))
 
@@ -61,7 +65,8 @@ pub record Names (p : Place) (a : Answer) : Type 0 where
   pub address : addressOf a ≡ p .address
   pub place : placeOf a ≡ p .interval
 
--- the first wrong interval of k blocks, and the answer that names it: all before it are right, it is wrong
+-- "then intervals in order": the first wrong interval of k blocks, and the answer that names it. All before it are right, it is
+-- wrong
 pub record FirstWrongInterval (d : Description) (c : Command) (k : ℕ) (s : List ℕ) (a : Answer) : Type 0 where
   pub block : ℕ
   pub interval : ℕ
