@@ -99,11 +99,26 @@ module _ (a : Answer) (d : Description) (c : Command) (segment buffer : List ℕ
   answer-for Write = refl
   answer-for Verify = refl
 
-alike-for : (d : Description) (c : Command) (s s′ buffer : List ℕ) → blocksOf d c s ≡ blocksOf d c s′ → (o : Operation) → (o ≡ Write → ⊥)
-    → Alike (performedFor o (judgedFor o d c s buffer) d c s buffer) (performedFor o (judgedFor o d c s′ buffer) d c s′ buffer)
-alike-for d c s s′ buffer e Read n = rw e (refl, refl)
-alike-for d c s s′ buffer e Write n = absurd (n refl)
-alike-for d c s s′ buffer e Verify n = rw e (refl, refl)
+-- two segments with the same blocks of the transfer, two buffers
+module _ (d : Description) (c : Command) (s s′ b b′ : List ℕ) (e : blocksOf d c s ≡ blocksOf d c s′) where
+  judged-alike : (o : Operation) → (o ≡ Write → ⊥) → judgedFor o d c s b ≡ judgedFor o d c s′ b′
+  judged-alike Read n = ap (judgedIn d c) e
+  judged-alike Write n = absurd (n refl)
+  judged-alike Verify n = ap (judgedIn d c) e
+
+  performed-alike : (c .operation ≡ Write → ⊥) → Alike c (performed d c s b) (performed d c s′ b′)
+  unfolding performed judged
+  performed-alike n =
+      let a = judged d c s b in
+      let a′ = judged d c s′ b′ in
+      let same = answer-for a d c s b (c .operation) ∙ judged-alike (c .operation) n ∙ sym (answer-for a′ d c s′ b′ (c .operation)) in
+      record {
+        answer = same;
+        filled =
+            λ r g.
+            handed-for a d c s b (c .operation) r g
+            ∙ ap (handed d c) e ∙ sym (handed-for a′ d c s′ b′ (c .operation) r (ap isGood (sym same) ∙ g));
+      }
 
 -- ---- what a served command's admission can be
 abbrev Settled : Command → Admitted → Type 0
@@ -200,15 +215,16 @@ module _ (d : Description) (segment command buffer : List ℕ) where
         (λ r g. handed-for (judged d c segment buffer) d c segment buffer (c .operation) w g)
 
 -- "The answer of a READ or VERIFY depends on the description, the command, the lengths and the transfer's blocks, on no other block."
-pub own-blocks-alone : (d : Description) (s s′ command buffer : List ℕ) (c : Command) → decode command ≡ Served c → (c .operation ≡ Write → ⊥)
-    → length s ≡ length s′ → blocksOf d c s ≡ blocksOf d c s′ → Alike (executed d s command buffer) (executed d s′ command buffer)
-unfolding executed performed judged
-own-blocks-alone d s s′ command buffer c served n l e =
-    rw (← l) (by (admitted d (length s) command (length buffer)) (admitted-settled d s command buffer c served))
+pub own-blocks-alone : (d : Description) (s s′ command buffer buffer′ : List ℕ) (c : Command) → decode command ≡ Served c → (c .operation ≡ Write → ⊥)
+    → length s ≡ length s′ → length buffer ≡ length buffer′ → blocksOf d c s ≡ blocksOf d c s′
+    → Alike c (executed d s command buffer) (executed d s′ command buffer′)
+unfolding executed
+own-blocks-alone d s s′ command buffer buffer′ c served n l m e =
+    rw (← l, ← m) (by (admitted d (length s) command (length buffer)) (admitted-settled d s command buffer c served))
   where
-    by : (x : Admitted) → Settled c x → Alike (executedAs x d s buffer) (executedAs x d s′ buffer)
-    by (Refused a) t = (refl, refl)
-    by (Go k) t = rw t (alike-for d c s s′ buffer e (c .operation) n)
+    by : (x : Admitted) → Settled c x → Alike c (executedAs x d s buffer) (executedAs x d s′ buffer′)
+    by (Refused a) t = record { answer = refl; filled = λ r g. absurd (true≢false (sym g ∙ t)) }
+    by (Go k) t = rw t (performed-alike d c s s′ buffer buffer′ e n)
 
 -- a READ after a WRITE of the same blocks, both good
 module _ (d : Description) (segment writing buffer reading out : List ℕ) (w k : Command)
