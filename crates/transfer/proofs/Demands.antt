@@ -2,13 +2,13 @@
 -- Assumes nothing.
 use mathlib.Core.Path.{_≡_, refl, sym, ap, _∙_}
 use mathlib.Core.Logic.{_↔_, ⊎-elim}
-use mathlib.Core.Bool.{Bool, true, false, not, cond, true≢false}
+use mathlib.Core.Bool.{Bool, true, false, not, _&&_, cond, true≢false}
 use mathlib.Core.List.{List}
 use Prim.Native.Nat.{ℕ, _+_, _*_, _%_, _^_, _≤_, _<_}
 use native.Mathlib.Nat.{mod-lt, le-of-eq}
 use native.Mathlib.Omega.{arith}
-use borrow.Author.Tests.{eqb-true, eqb-false}
-use lib.Dec.{eqb, lit<, lit≤}
+use borrow.Author.Tests.{eqb-true, eqb-false, le-leb}
+use lib.Dec.{eqb, leb, lit<, lit≤}
 use lib.ListN.{length}
 use Rattle.words.specs.Parts.{Bytes}
 use Rattle.answer.specs.Answer.{numberOf, isGood}
@@ -37,9 +37,10 @@ use Rattle.admission.proofs.Ready.{admitted-ready}
 use Rattle.transfer.specs.Transfer.{Outcome, outcome, blocksOf, whole, judgedIn, judgedFor, judged, handed, received, overwritten, performedFor, performed, executedAs, executed}
 use Rattle.transfer.specs.Compared.{Alike, Beside, asRead}
 use Rattle.transfer.proofs.Shapes.{whole-code, whole-not, received-whole, judged-plain, judged-fields}
-use Rattle.transfer.specs.Checked.{underCheck, checkedBlocks, intervalAt, placeAt, verdictAt, FirstWrongInterval}
+use Rattle.transfer.specs.Checked.{underCheck, checkedBlocks, intervalAt, placeAt, verdictAt, FirstWrongInterval, forProtection, WrongInterval}
 use Rattle.transfer.proofs.Wrong.{blocks-good, blocks-wrong, interval-verdict}
 use Rattle.transfer.proofs.Accepted.{inserted-accepted, received-accepted}
+use Rattle.transfer.proofs.InOrder.{not-in-order-names-no-interval}
 use Rattle.transfer.proofs.Stored.{enough, inserted, beside-itself, overwritten-beside, overwritten-there, handed-back, same-blocks}
 
 in-table : (a : Answer) → numberOf a ≤ 14
@@ -328,10 +329,54 @@ module _ (d : Description) (segment command buffer : List ℕ) (c : Command)
   unfolding rulesOf
   guard-application-reference j i = interval-verdict (rulesOf d c) (placeAt d c j i) (intervalAt d checked j i)
 
--- ---- a READ that asks as a good WRITE asked is good
-
 good-is : (a : Answer) → isGood a ≡ true → a ≡ answers.Good
 good-is a g = ⊎-elim (λ e. e) (λ w. absurd (true≢false (sym g ∙ w))) (good-or a)
+
+wrong-is : (a : Answer) → forProtection a ≡ true → isGood a ≡ false
+wrong-is a p = ⊎-elim (λ g. absurd (true≢false (sym p ∙ ap forProtection g))) (λ w. w) (good-or a)
+
+between : (n : ℕ) → 8 ≤ n → n ≤ 10 → leb 8 n && leb n 10 ≡ true
+between n l m = rw (le-leb 8 n l, le-leb n 10 m)
+
+module _ (d : Description) (segment command buffer : List ℕ) (bytes : Bytes command) where
+  abbrev answered : Answer
+  answered = executed d segment command buffer .answer
+
+  refused-is-wrong : forProtection answered ≡ true → (x : Admitted) → admitted d (length segment) command (length buffer) ≡ x
+      → WrongInterval d segment command buffer
+  unfolding executed
+  refused-is-wrong p (Refused a) e =
+      absurd
+      (true≢false
+      (sym p ∙ ap (λ (x : Admitted). forProtection (executedAs x d segment buffer .answer)) e
+      ∙ not-in-order-names-no-interval d (length segment) command (length buffer) a e))
+  refused-is-wrong p (Go c) e =
+      let f = refused-names-the-first-wrong d segment command buffer c bytes e (wrong-is answered p) in
+      record {
+        transfer = c;
+        in-order = e;
+        block = f .block;
+        interval = f .interval;
+        block-within = f .block-within;
+        interval-within = f .interval-within;
+        wrong = rw (f .checked) (ap isGood (f .here) ∙ f .wrong);
+      }
+
+  wrong-is-refused : WrongInterval d segment command buffer → forProtection answered ≡ true
+  wrong-is-refused w =
+      let c = w .transfer in
+      let right = good-exactly-when-all-right d segment command buffer c bytes (w .in-order) in
+      let no-good : answered ≡ answers.Good → ⊥ =
+      λ g. true≢false (sym (ap isGood (right .0 g (w .block) (w .interval) (w .block-within) (w .interval-within))) ∙ w .wrong) in
+      let wrong : isGood answered ≡ false = ⊎-elim (λ g. absurd (no-good g)) (λ b. b) (good-or answered) in
+      let named = refused-names-the-first-wrong d segment command buffer c bytes (w .in-order) wrong .names in
+      between (numberOf answered) (named .least) (named .most)
+
+  -- "refused for protection exactly when an interval under check is wrong", of every command
+  pub refused-exactly-when-wrong : (forProtection answered ≡ true) ↔ WrongInterval d segment command buffer
+  refused-exactly-when-wrong = (λ p. refused-is-wrong p (admitted d (length segment) command (length buffer)) refl, wrong-is-refused)
+
+-- ---- a READ that asks as a good WRITE asked is good
 
 refusal-same : (d : Description) (c : Command) (b : ℕ) → isVerify (c .operation) ≡ false → refusal d (asRead c) b ≡ refusal d c b
 unfolding refusal typeRules codeRule checkRule rangeRule sizeRule movedOf bufferRule bufferOf

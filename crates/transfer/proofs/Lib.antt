@@ -4,4 +4,5 @@ pub mod Outcomes
 pub mod Stored
 pub mod Wrong
 pub mod Accepted
+pub mod InOrder
 pub mod Demands

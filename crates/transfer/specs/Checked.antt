@@ -1,10 +1,10 @@
 -- The intervals that a transfer checks, one by one: their bytes, their places, their verdicts.
 use Prim.Native.Nat.{ℕ, _+_, _*_, _%_, _^_, _≤_, _<_}
 use mathlib.Core.Path.{_≡_}
-use mathlib.Core.Bool.{Bool, false, cond}
+use mathlib.Core.Bool.{Bool, false, _&&_, cond}
 use mathlib.Core.List.{List}
-use lib.Dec.{eqb}
-use lib.ListN.{drop}
+use lib.Dec.{eqb, leb}
+use lib.ListN.{length, drop}
 use Rattle.answer.specs.Answer.{numberOf, addressOf, placeOf, isGood}
 use Rattle.answer.specs.declared.Answer.{Answer}
 use Rattle.answer.specs.declared.Answer.the-variants as answers
@@ -16,6 +16,8 @@ use Rattle.command.specs.declared.Operation.the-variants.{Read, Write, Verify}
 use Rattle.judge.specs.declared.Place.{Place}
 use Rattle.judge.specs.Judge.{anyEscapes, judgeInterval}
 use Rattle.checks.specs.Checks.{rulesOf, firstTag}
+use Rattle.admission.specs.declared.Admitted.the-variants.{Go}
+use Rattle.admission.specs.Admission.{admitted}
 use Rattle.transfer.specs.Transfer.{blocksOf}
 
 -- "READ and VERIFY check the stored intervals. WRITE checks the incoming ones"
@@ -78,3 +80,18 @@ pub record FirstWrongInterval (d : Description) (c : Command) (k : ℕ) (s : Lis
   pub here : judgeInterval (rulesOf d c) (placeAt d c block interval) (intervalAt d s block interval) ≡ a
   pub wrong : isGood a ≡ false
   pub names : Names (placeAt d c block interval) a
+
+-- "8, 9, 10 | guard, application, reference check failed"
+abbrev pub forProtection : Answer → Bool
+forProtection a = leb 8 (numberOf a) && leb (numberOf a) 10
+
+-- "a transfer otherwise in order is refused for protection exactly when an interval under check is wrong": the transfer, and
+-- such an interval of it
+pub record WrongInterval (d : Description) (segment command buffer : List ℕ) : Type 0 where
+  pub transfer : Command
+  pub in-order : admitted d (length segment) command (length buffer) ≡ Go transfer
+  pub block : ℕ
+  pub interval : ℕ
+  pub block-within : block < checkedBlocks (transfer .operation) d transfer
+  pub interval-within : interval < intervalsOf d
+  pub wrong : isGood (verdictAt d transfer (underCheck (transfer .operation) d transfer segment buffer) block interval) ≡ false
