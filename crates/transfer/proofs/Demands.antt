@@ -174,6 +174,16 @@ module _ (d : Description) (segment command buffer : List ℕ) where
         by (Refused a) e s = none a s
         by (Go k) e s = rw s (some (rw s at (admitted-ready d (length segment) command (length buffer) k e)))
 
+    -- a good command was in order
+    pub good-in-order : isGood (executed d segment command buffer .answer) ≡ true → admitted d (length segment) command (length buffer) ≡ Go c
+    unfolding executed
+    good-in-order = by (admitted d (length segment) command (length buffer)) refl admitted-settled
+      where
+        by : (x : Admitted) → admitted d (length segment) command (length buffer) ≡ x → Settled c x → isGood (executedAs x d segment buffer .answer) ≡ true
+            → admitted d (length segment) command (length buffer) ≡ Go c
+        by (Refused a) e s g = absurd (true≢false (sym g ∙ s))
+        by (Go k) e s g = e ∙ ap Go s
+
     -- "A READ or VERIFY never changes the segment."
     pub read-or-verify-leaves-segment : (c .operation ≡ Write → ⊥) → executed d segment command buffer .segment ≡ segment
     unfolding performed
@@ -262,6 +272,12 @@ served-when c d b false false (Served k) e = ap Served (by (isGood (refusal d k 
     by true f = cc
     by false f = let z : _≡_ {A = ℕ} 0 1 = cc in absurd (omega arith)
 
+pub in-order-served : (d : Description) (segment : ℕ) (command : List ℕ) (buffer : ℕ) (c : Command) → admitted d segment command buffer ≡ Go c
+    → decode command ≡ Served c
+unfolding admitted
+in-order-served d segment command buffer c =
+    served-when c d buffer (not (isSegment d)) (not (eqb segment (lengthOf d))) (decode command)
+
 -- the first tag is one of four bytes
 tag-small : (d : Description) (c : Command) → c .tag < 2 ^ 32 → firstTag d c < 2 ^ 32
 unfolding firstTag
@@ -290,6 +306,12 @@ judged-for d c segment buffer Write = by (eqb (c .code) 0)
     by true = refl
     by false = pick-none (eqb (d .kind) 0) d c buffer
 
+pub performed-answer : (d : Description) (c : Command) (segment buffer : List ℕ) → performed d c segment buffer .answer
+    ≡ judgeBlocks (rulesOf d c) (checkedBlocks (c .operation) d c) (startOf d c) (underCheck (c .operation) d c segment buffer)
+unfolding performed judged
+performed-answer d c segment buffer =
+    answer-for (judged d c segment buffer) d c segment buffer (c .operation) ∙ judged-for d c segment buffer (c .operation)
+
 module _ (d : Description) (segment command buffer : List ℕ) (c : Command)
     (bytes : Bytes command) (in-order : admitted d (length segment) command (length buffer) ≡ Go c) where
   abbrev checked : List ℕ
@@ -299,15 +321,11 @@ module _ (d : Description) (segment command buffer : List ℕ) (c : Command)
   count = checkedBlocks (c .operation) d c
 
   small : firstTag d c < 2 ^ 32
-  unfolding admitted
-  small =
-      tag-small d c
-      (served-bounded command c
-      (served-when c d (length buffer) (not (isSegment d)) (not (eqb (length segment) (lengthOf d))) (decode command) in-order) bytes .tag)
+  small = tag-small d c (served-bounded command c (in-order-served d (length segment) command (length buffer) c in-order) bytes .tag)
 
   answer-is : executed d segment command buffer .answer ≡ judgeBlocks (rulesOf d c) count (startOf d c) checked
-  unfolding executed performed judged
-  answer-is = rw in-order (answer-for (judged d c segment buffer) d c segment buffer (c .operation) ∙ judged-for d c segment buffer (c .operation))
+  unfolding executed
+  answer-is = rw in-order (performed-answer d c segment buffer)
 
   -- "a transfer with no wrong interval is good", and no other is
   pub good-exactly-when-all-right : (executed d segment command buffer .answer ≡ answers.Good)
@@ -397,13 +415,7 @@ module _ (d : Description) (segment writing buffer reading out : List ℕ) (w : 
   then = executed d segment writing buffer .segment
 
   write-went : admitted d (length segment) writing (length buffer) ≡ Go w
-  unfolding executed
-  write-went = by (admitted d (length segment) writing (length buffer)) refl (admitted-settled d segment writing buffer w writes) good-write
-    where
-      by : (x : Admitted) → admitted d (length segment) writing (length buffer) ≡ x → Settled w x → isGood (executedAs x d segment buffer .answer) ≡ true
-          → admitted d (length segment) writing (length buffer) ≡ Go w
-      by (Refused a) e s g = absurd (true≢false (sym g ∙ s))
-      by (Go k) e s g = e ∙ ap Go s
+  write-went = good-in-order d segment writing buffer w writes good-write
 
   read-went : admitted d (length then) reading (length out) ≡ Go (asRead w)
   unfolding admitted

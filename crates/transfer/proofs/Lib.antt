@@ -6,3 +6,4 @@ pub mod Wrong
 pub mod Accepted
 pub mod InOrder
 pub mod Demands
+pub mod Moved
