@@ -135,16 +135,24 @@ small-of true x y n p q = p
 small-of false x y n p q = q
 
 module _ (d : Description) (c : Command) (application : c .application < 65536) (tag : c .tag < 2 ^ 32) where
+  pub small-application : marksOf d c .application < 65536
+  unfolding marksOf insertedApplication
+  small-application = small-of (eqb (d .ato) 0) _ _ 65536 (lit< tt) (small-of (c .long) _ _ 65536 application (lit< tt))
+
+  pub small-reference : marksOf d c .reference < 2 ^ 32
+  unfolding marksOf insertedReference
+  small-reference =
+      small-of (eqb (d .kind) 1) _ _ (2 ^ 32) (mod-lt (c .address) (lit< tt))
+      (small-of (eqb (d .kind) 2) _ _ (2 ^ 32) (small-of (c .long) _ _ (2 ^ 32) tag (mod-lt (c .address * intervalsOf d) (lit< tt))) (lit< tt))
+
   fit-start : Fit (rulesOf d (asRead c)) (startOf d (asRead c)) (marksOf d c)
   unfolding rulesOf startOf marksOf insertedApplication insertedReference applicationKnown referenceKnown firstTag
   fit-start =
       record {
         application = fit-application (columnsOf (c .code) .application) (c .long) (d .ato) (c .application);
         reference = fit-reference (columnsOf (c .code) .reference) (c .long) (d .kind) (c .address % 2 ^ 32) (c .tag) (c .address * intervalsOf d % 2 ^ 32);
-        two-bytes = small-of (eqb (d .ato) 0) _ _ 65536 (lit< tt) (small-of (c .long) _ _ 65536 application (lit< tt));
-        four-bytes =
-            small-of (eqb (d .kind) 1) _ _ (2 ^ 32) (mod-lt (c .address) (lit< tt))
-            (small-of (eqb (d .kind) 2) _ _ (2 ^ 32) (small-of (c .long) _ _ (2 ^ 32) tag (mod-lt (c .address * intervalsOf d) (lit< tt))) (lit< tt));
+        two-bytes = small-application;
+        four-bytes = small-reference;
       }
 
   pub inserted-accepted : (s : List ℕ) → c .length * (intervalsOf d * sizeOf d) ≤ length s

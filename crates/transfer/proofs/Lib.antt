@@ -7,3 +7,4 @@ pub mod Accepted
 pub mod InOrder
 pub mod Demands
 pub mod Moved
+pub mod Inserted
