@@ -306,6 +306,7 @@ judged-for d c segment buffer Write = by (eqb (c .code) 0)
     by true = refl
     by false = pick-none (eqb (d .kind) 0) d c buffer
 
+-- the answer of a command in order
 pub performed-answer : (d : Description) (c : Command) (segment buffer : List ℕ) → performed d c segment buffer .answer
     ≡ judgeBlocks (rulesOf d c) (checkedBlocks (c .operation) d c) (startOf d c) (underCheck (c .operation) d c segment buffer)
 unfolding performed judged
@@ -329,23 +330,27 @@ module _ (d : Description) (segment command buffer : List ℕ) (c : Command)
 
   -- "a transfer with no wrong interval is good", and no other is
   pub good-exactly-when-all-right : (executed d segment command buffer .answer ≡ answers.Good)
-      ↔ ((j i : ℕ) → j < count → i < intervalsOf d → verdictAt d c checked j i ≡ answers.Good)
+      ↔ ((j i : ℕ) → j < checkedBlocks (c .operation) d c → i < intervalsOf d
+      → verdictAt d c (underCheck (c .operation) d c segment buffer) j i ≡ answers.Good)
   good-exactly-when-all-right = rw answer-is (blocks-good d c checked small count)
 
   -- 8, 9 or 10 with the first wrong interval's address and place: all before it are right
   pub refused-names-the-first-wrong : isGood (executed d segment command buffer .answer) ≡ false
-      → FirstWrongInterval d c count checked (executed d segment command buffer .answer)
+      → FirstWrongInterval d c (checkedBlocks (c .operation) d c) (underCheck (c .operation) d c segment buffer)
+      (executed d segment command buffer .answer)
   refused-names-the-first-wrong = rw answer-is (blocks-wrong d c checked small count)
 
   -- "in one interval guard, application, reference": of each, what its verdict says
   pub guard-application-reference : (j i : ℕ)
       → let r = rulesOf d c in
-      let s = intervalAt d checked j i in
+      let s = intervalAt d (underCheck (c .operation) d c segment buffer) j i in
       let f = fieldOf (sizeOf d) s in
       Verdict (guardWrong r (dataOf (sizeOf d) s) f) (applicationWrong r f) (referenceWrong r (placeAt d c j i) f)
       (c .address + j) (j * intervalsOf d + i) (judgeInterval r (placeAt d c j i) s)
   unfolding rulesOf
   guard-application-reference j i = interval-verdict (rulesOf d c) (placeAt d c j i) (intervalAt d checked j i)
+
+-- ---- a command in order or not
 
 good-is : (a : Answer) → isGood a ≡ true → a ≡ answers.Good
 good-is a g = ⊎-elim (λ e. e) (λ w. absurd (true≢false (sym g ∙ w))) (good-or a)
@@ -391,7 +396,7 @@ module _ (d : Description) (segment command buffer : List ℕ) (bytes : Bytes co
       between (numberOf answered) (named .least) (named .most)
 
   -- "refused for protection exactly when an interval under check is wrong", of every command
-  pub refused-exactly-when-wrong : (forProtection answered ≡ true) ↔ WrongInterval d segment command buffer
+  pub refused-exactly-when-wrong : (forProtection (executed d segment command buffer .answer) ≡ true) ↔ WrongInterval d segment command buffer
   refused-exactly-when-wrong = (λ p. refused-is-wrong p (admitted d (length segment) command (length buffer)) refl, wrong-is-refused)
 
 -- ---- a READ that asks as a good WRITE asked is good
