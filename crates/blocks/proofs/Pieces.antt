@@ -13,13 +13,13 @@ use Rattle.words.specs.Runs.{runs}
 use Rattle.blocks.proofs.Places.{append-bytes, drop-bytes, cut}
 
 -- one piece, and the rest
-one-within : (k P n : ℕ) → suc k * P ≤ n → P ≤ n
+pub one-within : (k P n : ℕ) → suc k * P ≤ n → P ≤ n
 one-within k P n h = omega (arith, suc-mul k P)
 
-rest-within : (k P : ℕ) (s : List ℕ) → suc k * P ≤ length s → k * P ≤ length (drop P s)
+pub rest-within : (k P : ℕ) (s : List ℕ) → suc k * P ≤ length s → k * P ≤ length (drop P s)
 rest-within k P s h = rw length-drop (omega (arith, suc-mul k P))
 
-one-more : (k P : ℕ) → suc k * P ≡ P + k * P
+pub one-more : (k P : ℕ) → suc k * P ≡ P + k * P
 one-more k P = suc-mul k P ∙ add-comm (k * P) P
 
 module _ {A : Type 0} (piece : A → List ℕ → List ℕ) (next : A → A) (P : ℕ) where

@@ -35,7 +35,7 @@ use Rattle.admission.proofs.Rules.{inside, moved-plain, moved-whole, moved-most
 use Rattle.admission.proofs.Ready.{admitted-ready}
 use Rattle.transfer.specs.Transfer.{blocksOf, judgedIn, judgedFor, judged, handed, performedFor, performed, executed}
 use Rattle.transfer.proofs.Shapes.{moved-flat, whole-not, handed-parted, judged-fields}
-use Rattle.transfer.proofs.Checked.{intervalAt, skipped}
+use Rattle.transfer.specs.Checked.{intervalAt, skipped}
 use Rattle.fresh.specs.Allowed.{Allowed}
 use Rattle.fresh.proofs.Runs.{field-at, zeros}
 use Rattle.fresh.proofs.Filled.{fresh-blocks, filled-segment, filled-facts, filled-fresh, filled-length}

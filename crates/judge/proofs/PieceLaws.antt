@@ -1,7 +1,6 @@
 -- One interval: each answer is given exactly when its field is the first wrong one.
 -- Assumes nothing.
 use mathlib.Core.Path.{_≡_, refl, sym, ap}
-use mathlib.Core.Logic.{_↔_}
 use mathlib.Core.Bool.{Bool, true, false, not, _&&_, cond, true≢false, false≢true}
 use mathlib.Core.List.{List}
 use Prim.Native.Nat.{ℕ}
@@ -12,6 +11,7 @@ use Rattle.answer.specs.declared.Answer.{Answer}
 use Rattle.answer.specs.declared.Answer.the-variants as answers
 use Rattle.judge.specs.declared.Rules.{Rules}
 use Rattle.judge.specs.declared.Place.{Place}
+use Rattle.judge.specs.Verdict.{Verdict}
 use Rattle.judge.specs.Judge.{guardWrong, applicationWrong, referenceWrong, judgePieces}
 
 -- ---- a field that is checked, and one that is not
@@ -21,12 +21,7 @@ checked on x y a b o p q = rw (o, p, q) refl
 pub unchecked : (on b : Bool) → on ≡ false → false ≡ on && b
 unchecked on b o = rw o refl
 
--- ---- three tests in order: each answer is given exactly when its test is the first that holds
-pub record Verdict (g a f : Bool) (x y : ℕ) (m : Answer) : Type 0 where
-  pub guard : (m ≡ answers.Guard x y) ↔ (g ≡ true)
-  pub application : (m ≡ answers.Application x y) ↔ ((g ≡ false) × (a ≡ true))
-  pub reference : (m ≡ answers.Reference x y) ↔ ((g ≡ false) × (a ≡ false) × (f ≡ true))
-  pub good : (m ≡ answers.Good) ↔ ((g ≡ false) × (a ≡ false) × (f ≡ false))
+-- ---- three tests in order
 
 -- answers with different numbers are different
 apart : {G : Type 0} (m n : Answer) → eqb (numberOf m) (numberOf n) ≡ false → m ≡ n → G

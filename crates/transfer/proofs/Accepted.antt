@@ -17,7 +17,7 @@ use Rattle.answer.specs.declared.Answer.the-variants as answers
 use Rattle.segment.specs.declared.Description.{Description}
 use Rattle.segment.specs.Segment.{intervalsOf, sizeOf}
 use Rattle.command.specs.declared.Command.{Command}
-use Rattle.command.specs.declared.Operation.the-variants.{Read, Write}
+use Rattle.command.specs.declared.Operation.the-variants.{Write}
 use Rattle.judge.specs.declared.Rules.{Rules}
 use Rattle.judge.specs.declared.Place.{Place}
 use Rattle.judge.specs.declared.Escape.the-variants.{Never}
@@ -30,23 +30,9 @@ use Rattle.blocks.specs.Blocks.{fieldBytes, withField, later, storedBlock, stor
 use Rattle.blocks.proofs.Laws.{field-length, interval-length, block-length, interval-read-on, interval-field-on, guard-there, application-there, reference-there}
 use Rattle.checks.specs.Checks.{columnsOf, applicationKnown, referenceKnown, firstTag, escapeOf, rulesOf, startOf}
 use Rattle.checks.specs.Inserted.{insertedApplication, insertedReference, marksOf}
-use Rattle.transfer.proofs.Checked.{intervalAt, placeAt, skipped, verdictAt}
+use Rattle.transfer.specs.Checked.{intervalAt, placeAt, skipped, verdictAt}
+use Rattle.transfer.specs.Compared.{asRead}
 use Rattle.transfer.proofs.Wrong.{blocks-good}
-
--- a READ that asks as a command asks
-abbrev pub asRead : Command → Command
-asRead c =
-    record {
-      operation = Read;
-      long = c .long;
-      code = c .code;
-      check = c .check;
-      address = c .address;
-      length = c .length;
-      tag = c .tag;
-      application = c .application;
-      mask = c .mask;
-    }
 
 -- ---- pieces that are each judged good, one behind the other
 module _ {M : Type 0} (judge : Place → List ℕ → Answer) (next : Place → Place) (piece : M → List ℕ → List ℕ) (on : M → M) (P Q : ℕ) (F : Place → M → Type 0)
@@ -149,16 +135,24 @@ small-of true x y n p q = p
 small-of false x y n p q = q
 
 module _ (d : Description) (c : Command) (application : c .application < 65536) (tag : c .tag < 2 ^ 32) where
+  pub small-application : marksOf d c .application < 65536
+  unfolding marksOf insertedApplication
+  small-application = small-of (eqb (d .ato) 0) _ _ 65536 (lit< tt) (small-of (c .long) _ _ 65536 application (lit< tt))
+
+  pub small-reference : marksOf d c .reference < 2 ^ 32
+  unfolding marksOf insertedReference
+  small-reference =
+      small-of (eqb (d .kind) 1) _ _ (2 ^ 32) (mod-lt (c .address) (lit< tt))
+      (small-of (eqb (d .kind) 2) _ _ (2 ^ 32) (small-of (c .long) _ _ (2 ^ 32) tag (mod-lt (c .address * intervalsOf d) (lit< tt))) (lit< tt))
+
   fit-start : Fit (rulesOf d (asRead c)) (startOf d (asRead c)) (marksOf d c)
   unfolding rulesOf startOf marksOf insertedApplication insertedReference applicationKnown referenceKnown firstTag
   fit-start =
       record {
         application = fit-application (columnsOf (c .code) .application) (c .long) (d .ato) (c .application);
         reference = fit-reference (columnsOf (c .code) .reference) (c .long) (d .kind) (c .address % 2 ^ 32) (c .tag) (c .address * intervalsOf d % 2 ^ 32);
-        two-bytes = small-of (eqb (d .ato) 0) _ _ 65536 (lit< tt) (small-of (c .long) _ _ 65536 application (lit< tt));
-        four-bytes =
-            small-of (eqb (d .kind) 1) _ _ (2 ^ 32) (mod-lt (c .address) (lit< tt))
-            (small-of (eqb (d .kind) 2) _ _ (2 ^ 32) (small-of (c .long) _ _ (2 ^ 32) tag (mod-lt (c .address * intervalsOf d) (lit< tt))) (lit< tt));
+        two-bytes = small-application;
+        four-bytes = small-reference;
       }
 
   pub inserted-accepted : (s : List ℕ) → c .length * (intervalsOf d * sizeOf d) ≤ length s

@@ -2,13 +2,13 @@
 -- Assumes nothing.
 use mathlib.Core.Path.{_≡_, refl, sym, ap, _∙_}
 use mathlib.Core.Logic.{_↔_, ⊎-elim}
-use mathlib.Core.Bool.{Bool, true, false, not, cond, true≢false}
+use mathlib.Core.Bool.{Bool, true, false, not, _&&_, cond, true≢false}
 use mathlib.Core.List.{List}
 use Prim.Native.Nat.{ℕ, _+_, _*_, _%_, _^_, _≤_, _<_}
 use native.Mathlib.Nat.{mod-lt, le-of-eq}
 use native.Mathlib.Omega.{arith}
-use borrow.Author.Tests.{eqb-true, eqb-false}
-use lib.Dec.{eqb, lit<, lit≤}
+use borrow.Author.Tests.{eqb-true, eqb-false, le-leb}
+use lib.Dec.{eqb, leb, lit<, lit≤}
 use lib.ListN.{length}
 use Rattle.words.specs.Parts.{Bytes}
 use Rattle.answer.specs.Answer.{numberOf, isGood}
@@ -27,7 +27,7 @@ use Rattle.command.proofs.Laws.{Bounded, served-bounded}
 use Rattle.judge.specs.FirstOf.{firstOf}
 use Rattle.judge.specs.Judge.{dataOf, fieldOf, guardWrong, applicationWrong, referenceWrong, judgeInterval, judgeBlocks}
 use Rattle.judge.proofs.FirstLaws.{good-or}
-use Rattle.judge.proofs.PieceLaws.{Verdict}
+use Rattle.judge.specs.Verdict.{Verdict}
 use Rattle.checks.specs.Checks.{rulesOf, startOf, firstTag}
 use Rattle.admission.specs.declared.Admitted.{Admitted}
 use Rattle.admission.specs.declared.Admitted.the-variants.{Refused, Go}
@@ -35,11 +35,13 @@ use Rattle.admission.specs.Admission.{typeRules, codeRule, checkRule, rangeRule
 use Rattle.admission.specs.Ready.{Ready}
 use Rattle.admission.proofs.Ready.{admitted-ready}
 use Rattle.transfer.specs.Transfer.{Outcome, outcome, blocksOf, whole, judgedIn, judgedFor, judged, handed, received, overwritten, performedFor, performed, executedAs, executed}
+use Rattle.transfer.specs.Compared.{Alike, Beside, asRead}
 use Rattle.transfer.proofs.Shapes.{whole-code, whole-not, received-whole, judged-plain, judged-fields}
-use Rattle.transfer.proofs.Checked.{underCheck, checkedBlocks, intervalAt, placeAt, verdictAt, FirstWrongInterval}
+use Rattle.transfer.specs.Checked.{underCheck, checkedBlocks, intervalAt, placeAt, verdictAt, FirstWrongInterval, forProtection, WrongInterval}
 use Rattle.transfer.proofs.Wrong.{blocks-good, blocks-wrong, interval-verdict}
-use Rattle.transfer.proofs.Accepted.{asRead, inserted-accepted, received-accepted}
-use Rattle.transfer.proofs.Stored.{Beside, enough, inserted, beside-itself, overwritten-beside, overwritten-there, handed-back, same-blocks}
+use Rattle.transfer.proofs.Accepted.{inserted-accepted, received-accepted}
+use Rattle.transfer.proofs.InOrder.{not-in-order-names-no-interval}
+use Rattle.transfer.proofs.Stored.{enough, inserted, beside-itself, overwritten-beside, overwritten-there, handed-back, same-blocks}
 
 in-table : (a : Answer) → numberOf a ≤ 14
 in-table answers.Good = lit≤ tt
@@ -98,15 +100,26 @@ module _ (a : Answer) (d : Description) (c : Command) (segment buffer : List ℕ
   answer-for Write = refl
   answer-for Verify = refl
 
--- two segments with the same blocks of the transfer
-abbrev Alike : Outcome → Outcome → Type 0
-Alike x y = (x .answer ≡ y .answer) × (x .buffer ≡ y .buffer)
+-- two segments with the same blocks of the transfer, two buffers
+module _ (d : Description) (c : Command) (s s′ b b′ : List ℕ) (e : blocksOf d c s ≡ blocksOf d c s′) where
+  judged-alike : (o : Operation) → (o ≡ Write → ⊥) → judgedFor o d c s b ≡ judgedFor o d c s′ b′
+  judged-alike Read n = ap (judgedIn d c) e
+  judged-alike Write n = absurd (n refl)
+  judged-alike Verify n = ap (judgedIn d c) e
 
-alike-for : (d : Description) (c : Command) (s s′ buffer : List ℕ) → blocksOf d c s ≡ blocksOf d c s′ → (o : Operation) → (o ≡ Write → ⊥)
-    → Alike (performedFor o (judgedFor o d c s buffer) d c s buffer) (performedFor o (judgedFor o d c s′ buffer) d c s′ buffer)
-alike-for d c s s′ buffer e Read n = rw e (refl, refl)
-alike-for d c s s′ buffer e Write n = absurd (n refl)
-alike-for d c s s′ buffer e Verify n = rw e (refl, refl)
+  performed-alike : (c .operation ≡ Write → ⊥) → Alike c (performed d c s b) (performed d c s′ b′)
+  unfolding performed judged
+  performed-alike n =
+      let a = judged d c s b in
+      let a′ = judged d c s′ b′ in
+      let same = answer-for a d c s b (c .operation) ∙ judged-alike (c .operation) n ∙ sym (answer-for a′ d c s′ b′ (c .operation)) in
+      record {
+        answer = same;
+        filled =
+            λ r g.
+            handed-for a d c s b (c .operation) r g
+            ∙ ap (handed d c) e ∙ sym (handed-for a′ d c s′ b′ (c .operation) r (ap isGood (sym same) ∙ g));
+      }
 
 -- ---- what a served command's admission can be
 abbrev Settled : Command → Admitted → Type 0
@@ -161,6 +174,16 @@ module _ (d : Description) (segment command buffer : List ℕ) where
         by (Refused a) e s = none a s
         by (Go k) e s = rw s (some (rw s at (admitted-ready d (length segment) command (length buffer) k e)))
 
+    -- a good command was in order
+    pub good-in-order : isGood (executed d segment command buffer .answer) ≡ true → admitted d (length segment) command (length buffer) ≡ Go c
+    unfolding executed
+    good-in-order = by (admitted d (length segment) command (length buffer)) refl admitted-settled
+      where
+        by : (x : Admitted) → admitted d (length segment) command (length buffer) ≡ x → Settled c x → isGood (executedAs x d segment buffer .answer) ≡ true
+            → admitted d (length segment) command (length buffer) ≡ Go c
+        by (Refused a) e s g = absurd (true≢false (sym g ∙ s))
+        by (Go k) e s g = e ∙ ap Go s
+
     -- "A READ or VERIFY never changes the segment."
     pub read-or-verify-leaves-segment : (c .operation ≡ Write → ⊥) → executed d segment command buffer .segment ≡ segment
     unfolding performed
@@ -203,15 +226,16 @@ module _ (d : Description) (segment command buffer : List ℕ) where
         (λ r g. handed-for (judged d c segment buffer) d c segment buffer (c .operation) w g)
 
 -- "The answer of a READ or VERIFY depends on the description, the command, the lengths and the transfer's blocks, on no other block."
-pub own-blocks-alone : (d : Description) (s s′ command buffer : List ℕ) (c : Command) → decode command ≡ Served c → (c .operation ≡ Write → ⊥)
-    → length s ≡ length s′ → blocksOf d c s ≡ blocksOf d c s′ → Alike (executed d s command buffer) (executed d s′ command buffer)
-unfolding executed performed judged
-own-blocks-alone d s s′ command buffer c served n l e =
-    rw (← l) (by (admitted d (length s) command (length buffer)) (admitted-settled d s command buffer c served))
+pub own-blocks-alone : (d : Description) (s s′ command buffer buffer′ : List ℕ) (c : Command) → decode command ≡ Served c → (c .operation ≡ Write → ⊥)
+    → length s ≡ length s′ → length buffer ≡ length buffer′ → blocksOf d c s ≡ blocksOf d c s′
+    → Alike c (executed d s command buffer) (executed d s′ command buffer′)
+unfolding executed
+own-blocks-alone d s s′ command buffer buffer′ c served n l m e =
+    rw (← l, ← m) (by (admitted d (length s) command (length buffer)) (admitted-settled d s command buffer c served))
   where
-    by : (x : Admitted) → Settled c x → Alike (executedAs x d s buffer) (executedAs x d s′ buffer)
-    by (Refused a) t = (refl, refl)
-    by (Go k) t = rw t (alike-for d c s s′ buffer e (c .operation) n)
+    by : (x : Admitted) → Settled c x → Alike c (executedAs x d s buffer) (executedAs x d s′ buffer′)
+    by (Refused a) t = record { answer = refl; filled = λ r g. absurd (true≢false (sym g ∙ t)) }
+    by (Go k) t = rw t (performed-alike d c s s′ buffer buffer′ e n)
 
 -- a READ after a WRITE of the same blocks, both good
 module _ (d : Description) (segment writing buffer reading out : List ℕ) (w k : Command)
@@ -248,6 +272,12 @@ served-when c d b false false (Served k) e = ap Served (by (isGood (refusal d k 
     by true f = cc
     by false f = let z : _≡_ {A = ℕ} 0 1 = cc in absurd (omega arith)
 
+pub in-order-served : (d : Description) (segment : ℕ) (command : List ℕ) (buffer : ℕ) (c : Command) → admitted d segment command buffer ≡ Go c
+    → decode command ≡ Served c
+unfolding admitted
+in-order-served d segment command buffer c =
+    served-when c d buffer (not (isSegment d)) (not (eqb segment (lengthOf d))) (decode command)
+
 -- the first tag is one of four bytes
 tag-small : (d : Description) (c : Command) → c .tag < 2 ^ 32 → firstTag d c < 2 ^ 32
 unfolding firstTag
@@ -276,6 +306,13 @@ judged-for d c segment buffer Write = by (eqb (c .code) 0)
     by true = refl
     by false = pick-none (eqb (d .kind) 0) d c buffer
 
+-- the answer of a command in order
+pub performed-answer : (d : Description) (c : Command) (segment buffer : List ℕ) → performed d c segment buffer .answer
+    ≡ judgeBlocks (rulesOf d c) (checkedBlocks (c .operation) d c) (startOf d c) (underCheck (c .operation) d c segment buffer)
+unfolding performed judged
+performed-answer d c segment buffer =
+    answer-for (judged d c segment buffer) d c segment buffer (c .operation) ∙ judged-for d c segment buffer (c .operation)
+
 module _ (d : Description) (segment command buffer : List ℕ) (c : Command)
     (bytes : Bytes command) (in-order : admitted d (length segment) command (length buffer) ≡ Go c) where
   abbrev checked : List ℕ
@@ -285,40 +322,84 @@ module _ (d : Description) (segment command buffer : List ℕ) (c : Command)
   count = checkedBlocks (c .operation) d c
 
   small : firstTag d c < 2 ^ 32
-  unfolding admitted
-  small =
-      tag-small d c
-      (served-bounded command c
-      (served-when c d (length buffer) (not (isSegment d)) (not (eqb (length segment) (lengthOf d))) (decode command) in-order) bytes .tag)
+  small = tag-small d c (served-bounded command c (in-order-served d (length segment) command (length buffer) c in-order) bytes .tag)
 
   answer-is : executed d segment command buffer .answer ≡ judgeBlocks (rulesOf d c) count (startOf d c) checked
-  unfolding executed performed judged
-  answer-is = rw in-order (answer-for (judged d c segment buffer) d c segment buffer (c .operation) ∙ judged-for d c segment buffer (c .operation))
+  unfolding executed
+  answer-is = rw in-order (performed-answer d c segment buffer)
 
   -- "a transfer with no wrong interval is good", and no other is
   pub good-exactly-when-all-right : (executed d segment command buffer .answer ≡ answers.Good)
-      ↔ ((j i : ℕ) → j < count → i < intervalsOf d → verdictAt d c checked j i ≡ answers.Good)
+      ↔ ((j i : ℕ) → j < checkedBlocks (c .operation) d c → i < intervalsOf d
+      → verdictAt d c (underCheck (c .operation) d c segment buffer) j i ≡ answers.Good)
   good-exactly-when-all-right = rw answer-is (blocks-good d c checked small count)
 
   -- 8, 9 or 10 with the first wrong interval's address and place: all before it are right
   pub refused-names-the-first-wrong : isGood (executed d segment command buffer .answer) ≡ false
-      → FirstWrongInterval d c count checked (executed d segment command buffer .answer)
+      → FirstWrongInterval d c (checkedBlocks (c .operation) d c) (underCheck (c .operation) d c segment buffer)
+      (executed d segment command buffer .answer)
   refused-names-the-first-wrong = rw answer-is (blocks-wrong d c checked small count)
 
   -- "in one interval guard, application, reference": of each, what its verdict says
   pub guard-application-reference : (j i : ℕ)
       → let r = rulesOf d c in
-      let s = intervalAt d checked j i in
+      let s = intervalAt d (underCheck (c .operation) d c segment buffer) j i in
       let f = fieldOf (sizeOf d) s in
       Verdict (guardWrong r (dataOf (sizeOf d) s) f) (applicationWrong r f) (referenceWrong r (placeAt d c j i) f)
       (c .address + j) (j * intervalsOf d + i) (judgeInterval r (placeAt d c j i) s)
   unfolding rulesOf
   guard-application-reference j i = interval-verdict (rulesOf d c) (placeAt d c j i) (intervalAt d checked j i)
 
--- ---- a READ that asks as a good WRITE asked is good
+-- ---- a command in order or not
 
 good-is : (a : Answer) → isGood a ≡ true → a ≡ answers.Good
 good-is a g = ⊎-elim (λ e. e) (λ w. absurd (true≢false (sym g ∙ w))) (good-or a)
+
+wrong-is : (a : Answer) → forProtection a ≡ true → isGood a ≡ false
+wrong-is a p = ⊎-elim (λ g. absurd (true≢false (sym p ∙ ap forProtection g))) (λ w. w) (good-or a)
+
+between : (n : ℕ) → 8 ≤ n → n ≤ 10 → leb 8 n && leb n 10 ≡ true
+between n l m = rw (le-leb 8 n l, le-leb n 10 m)
+
+module _ (d : Description) (segment command buffer : List ℕ) (bytes : Bytes command) where
+  abbrev answered : Answer
+  answered = executed d segment command buffer .answer
+
+  refused-is-wrong : forProtection answered ≡ true → (x : Admitted) → admitted d (length segment) command (length buffer) ≡ x
+      → WrongInterval d segment command buffer
+  unfolding executed
+  refused-is-wrong p (Refused a) e =
+      absurd
+      (true≢false
+      (sym p ∙ ap (λ (x : Admitted). forProtection (executedAs x d segment buffer .answer)) e
+      ∙ not-in-order-names-no-interval d (length segment) command (length buffer) a e))
+  refused-is-wrong p (Go c) e =
+      let f = refused-names-the-first-wrong d segment command buffer c bytes e (wrong-is answered p) in
+      record {
+        transfer = c;
+        in-order = e;
+        block = f .block;
+        interval = f .interval;
+        block-within = f .block-within;
+        interval-within = f .interval-within;
+        wrong = rw (f .checked) (ap isGood (f .here) ∙ f .wrong);
+      }
+
+  wrong-is-refused : WrongInterval d segment command buffer → forProtection answered ≡ true
+  wrong-is-refused w =
+      let c = w .transfer in
+      let right = good-exactly-when-all-right d segment command buffer c bytes (w .in-order) in
+      let no-good : answered ≡ answers.Good → ⊥ =
+      λ g. true≢false (sym (ap isGood (right .0 g (w .block) (w .interval) (w .block-within) (w .interval-within))) ∙ w .wrong) in
+      let wrong : isGood answered ≡ false = ⊎-elim (λ g. absurd (no-good g)) (λ b. b) (good-or answered) in
+      let named = refused-names-the-first-wrong d segment command buffer c bytes (w .in-order) wrong .names in
+      between (numberOf answered) (named .least) (named .most)
+
+  -- "refused for protection exactly when an interval under check is wrong", of every command
+  pub refused-exactly-when-wrong : (forProtection (executed d segment command buffer .answer) ≡ true) ↔ WrongInterval d segment command buffer
+  refused-exactly-when-wrong = (λ p. refused-is-wrong p (admitted d (length segment) command (length buffer)) refl, wrong-is-refused)
+
+-- ---- a READ that asks as a good WRITE asked is good
 
 refusal-same : (d : Description) (c : Command) (b : ℕ) → isVerify (c .operation) ≡ false → refusal d (asRead c) b ≡ refusal d c b
 unfolding refusal typeRules codeRule checkRule rangeRule sizeRule movedOf bufferRule bufferOf
@@ -339,13 +420,7 @@ module _ (d : Description) (segment writing buffer reading out : List ℕ) (w : 
   then = executed d segment writing buffer .segment
 
   write-went : admitted d (length segment) writing (length buffer) ≡ Go w
-  unfolding executed
-  write-went = by (admitted d (length segment) writing (length buffer)) refl (admitted-settled d segment writing buffer w writes) good-write
-    where
-      by : (x : Admitted) → admitted d (length segment) writing (length buffer) ≡ x → Settled w x → isGood (executedAs x d segment buffer .answer) ≡ true
-          → admitted d (length segment) writing (length buffer) ≡ Go w
-      by (Refused a) e s g = absurd (true≢false (sym g ∙ s))
-      by (Go k) e s g = e ∙ ap Go s
+  write-went = good-in-order d segment writing buffer w writes good-write
 
   read-went : admitted d (length then) reading (length out) ≡ Go (asRead w)
   unfolding admitted

@@ -21,13 +21,8 @@ use Rattle.admission.specs.Admission.{isVerify, movedOf}
 use Rattle.admission.specs.Ready.{Ready}
 use Rattle.admission.proofs.Rules.{room-moved}
 use Rattle.transfer.specs.Transfer.{offsetOf, spanOf, blocksOf, whole, handed, received, overwritten}
+use Rattle.transfer.specs.Compared.{Beside}
 use Rattle.transfer.proofs.Shapes.{span-within, span-intervals, moved-intervals, moved-when-whole, parted, handed-whole, handed-parted, received-whole, received-parted}
-
--- the bytes beside a transfer's blocks, and how many there are in all
-pub record Beside (d : Description) (c : Command) (old new : List ℕ) : Type 0 where
-  pub before : take (offsetOf d c) new ≡ take (offsetOf d c) old
-  pub behind : drop (offsetOf d c + spanOf d c) new ≡ drop (offsetOf d c + spanOf d c) old
-  pub long : length new ≡ length old
 
 pub beside-itself : (d : Description) (c : Command) (s : List ℕ) → Beside d c s s
 beside-itself d c s = record { before = refl; behind = refl; long = refl }

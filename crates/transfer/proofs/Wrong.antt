@@ -16,12 +16,13 @@ use Rattle.command.specs.declared.Command.{Command}
 use Rattle.judge.specs.declared.Rules.{Rules}
 use Rattle.judge.specs.declared.Place.{Place}
 use Rattle.judge.specs.FirstOf.{firstOf}
+use Rattle.judge.specs.Verdict.{Verdict}
 use Rattle.judge.specs.Judge.{dataOf, fieldOf, guardWrong, applicationWrong, referenceWrong, judgePieces, judgeInterval, judgeIntervals, judgeBlock, judgeBlocks, nextInterval, nextBlock}
 use Rattle.judge.proofs.FirstLaws.{after, pieceAt, first-good, first-found, FirstWrong, not-both}
-use Rattle.judge.proofs.PieceLaws.{Verdict, pieces-verdict}
+use Rattle.judge.proofs.PieceLaws.{pieces-verdict}
 use Rattle.judge.proofs.PlaceLaws.{place-after-interval, place-after-block}
 use Rattle.checks.specs.Checks.{rulesOf, startOf, firstTag}
-use Rattle.transfer.proofs.Checked.{blockAt, intervalAt, placeAt, skipped, verdictAt, Names, FirstWrongInterval}
+use Rattle.transfer.specs.Checked.{blockAt, intervalAt, placeAt, skipped, verdictAt, Names, FirstWrongInterval}
 
 -- ---- one interval
 abbrev inTurn : Place → Bool → Bool → Bool → Answer

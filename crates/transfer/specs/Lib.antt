@@ -1,1 +1,4 @@
 pub mod Transfer
+pub mod Checked
+pub mod Compared
+pub mod Inserted

@@ -1,10 +1,10 @@
 -- The intervals that a transfer checks, one by one: their bytes, their places, their verdicts.
 use Prim.Native.Nat.{ℕ, _+_, _*_, _%_, _^_, _≤_, _<_}
 use mathlib.Core.Path.{_≡_}
-use mathlib.Core.Bool.{Bool, false, cond}
+use mathlib.Core.Bool.{Bool, false, _&&_, cond}
 use mathlib.Core.List.{List}
-use lib.Dec.{eqb}
-use lib.ListN.{drop}
+use lib.Dec.{eqb, leb}
+use lib.ListN.{length, drop}
 use Rattle.answer.specs.Answer.{numberOf, addressOf, placeOf, isGood}
 use Rattle.answer.specs.declared.Answer.{Answer}
 use Rattle.answer.specs.declared.Answer.the-variants as answers
@@ -16,6 +16,8 @@ use Rattle.command.specs.declared.Operation.the-variants.{Read, Write, Verify}
 use Rattle.judge.specs.declared.Place.{Place}
 use Rattle.judge.specs.Judge.{anyEscapes, judgeInterval}
 use Rattle.checks.specs.Checks.{rulesOf, firstTag}
+use Rattle.admission.specs.declared.Admitted.the-variants.{Go}
+use Rattle.admission.specs.Admission.{admitted}
 use Rattle.transfer.specs.Transfer.{blocksOf}
 
 -- "READ and VERIFY check the stored intervals. WRITE checks the incoming ones"
@@ -24,13 +26,15 @@ underCheck Read d c segment buffer = blocksOf d c segment
 underCheck Verify d c segment buffer = blocksOf d c segment
 underCheck Write d c segment buffer = buffer
 
--- how many blocks are checked: all, but none in type 0 and none of a WRITE with 000
+-- "WRITE checks the incoming ones for codes other than 000; for 000 it has none"; "Type 0 checks nothing.": how many blocks
+-- are checked
 abbrev pub checkedBlocks : Operation → Description → Command → ℕ
 checkedBlocks Read d c = cond (eqb (d .kind) 0) 0 (c .length)
 checkedBlocks Verify d c = cond (eqb (d .kind) 0) 0 (c .length)
 checkedBlocks Write d c = cond (eqb (c .code) 0) 0 (cond (eqb (d .kind) 0) 0 (c .length))
 
--- the bytes from block j on, and from its interval i on
+-- "A block has n = 2^e intervals of B/n data bytes. For types 1 to 3 each is followed by eight bytes": the bytes from block j
+-- on, and from its interval i on
 abbrev pub blockAt : Description → List ℕ → ℕ → List ℕ
 blockAt d s j = drop (j * (intervalsOf d * (sizeOf d + 8))) s
 
@@ -51,6 +55,8 @@ placeAt d c j i =
 abbrev pub skipped : Description → Command → List ℕ → ℕ → Bool
 skipped d c s j = anyEscapes (rulesOf d c .escape) (sizeOf d) (intervalsOf d) (blockAt d s j)
 
+-- what is wrong with interval i of block j, and good where it is right or not checked: "then intervals in order, and in one
+-- interval guard, application, reference"
 abbrev pub verdictAt : Description → Command → List ℕ → ℕ → ℕ → Answer
 verdictAt d c s j i = cond (skipped d c s j) answers.Good (judgeInterval (rulesOf d c) (placeAt d c j i) (intervalAt d s j i))
 
@@ -61,7 +67,8 @@ pub record Names (p : Place) (a : Answer) : Type 0 where
   pub address : addressOf a ≡ p .address
   pub place : placeOf a ≡ p .interval
 
--- the first wrong interval of k blocks, and the answer that names it: all before it are right, it is wrong
+-- "then intervals in order": the first wrong interval of k blocks, and the answer that names it. All before it are right, it is
+-- wrong
 pub record FirstWrongInterval (d : Description) (c : Command) (k : ℕ) (s : List ℕ) (a : Answer) : Type 0 where
   pub block : ℕ
   pub interval : ℕ
@@ -73,3 +80,18 @@ pub record FirstWrongInterval (d : Description) (c : Command) (k : ℕ) (s : Lis
   pub here : judgeInterval (rulesOf d c) (placeAt d c block interval) (intervalAt d s block interval) ≡ a
   pub wrong : isGood a ≡ false
   pub names : Names (placeAt d c block interval) a
+
+-- "8, 9, 10 | guard, application, reference check failed"
+abbrev pub forProtection : Answer → Bool
+forProtection a = leb 8 (numberOf a) && leb (numberOf a) 10
+
+-- "a transfer otherwise in order is refused for protection exactly when an interval under check is wrong": the transfer, and
+-- such an interval of it
+pub record WrongInterval (d : Description) (segment command buffer : List ℕ) : Type 0 where
+  pub transfer : Command
+  pub in-order : admitted d (length segment) command (length buffer) ≡ Go transfer
+  pub block : ℕ
+  pub interval : ℕ
+  pub block-within : block < checkedBlocks (transfer .operation) d transfer
+  pub interval-within : interval < intervalsOf d
+  pub wrong : isGood (verdictAt d transfer (underCheck (transfer .operation) d transfer segment buffer) block interval) ≡ false
