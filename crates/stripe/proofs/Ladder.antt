@@ -35,6 +35,10 @@ pub members-true : (k : ℕ) → 1 ≤ k → k ≤ 16 → T (members k)
 unfolding members
 members-true k l h = and-true (leb 1 k) (leb k 16) (le→leb 1 k l) (le→leb k 16 h)
 
+-- what is as long as k parts, and what is as long as one
+pub parts-long : (k : ℕ) {n long one : ℕ} → n ≡ k * long → one ≡ long → k * one ≡ n
+parts-long k e h = ap (λ (l : ℕ). k * l) h ∙ sym e
+
 pub same : (a b : ℕ) → a ≡ b → T (eqb a b)
 same a b e = rw e (eqb-refl b)
 

@@ -3,7 +3,7 @@
 use mathlib.Core.Path.{refl}
 use native.Mathlib.Nat.{zero-mul}
 use native.Mathlib.Omega.{arith}
-use Rattle.stripe.proofs.Ladder.{is-one, all-most}
+use Rattle.stripe.proofs.Ladder.{is-one, all-most, parts-long}
 use Rattle.stripe.proofs.Fits.{not-zero, make-bad, make-refused, make-unfit, make-good}
 use borrow.Author.Needs.{needs}
 use Rattle.stripe.proofs.make.Statement.{statement}
@@ -42,7 +42,7 @@ slice-aggregate-join c = refl
 join-requires : tie.Need-join-requires
 join-requires c κs =
     let tests = c .before .before in
-    (cc (tests .before .if5 .left, tests .if6 .left), zero-mul _)
+    (parts-long _ (tests .before .if5 .left) (tests .if6 .left), zero-mul _)
 
 same-length : tie.Need-same-length
 same-length c = search needs

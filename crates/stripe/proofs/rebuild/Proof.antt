@@ -1,8 +1,9 @@
 -- `stripe::rebuild`: each refusal denies a fact of a fit, and the last return has them all.
 -- Assumes nothing.
+use mathlib.Core.Path.{sym}
 use Prim.Native.Nat.{_+_}
 use native.Mathlib.Omega.{arith}
-use Rattle.stripe.proofs.Ladder.{is-one, all-most}
+use Rattle.stripe.proofs.Ladder.{is-one, all-most, parts-long}
 use Rattle.stripe.proofs.Fits.{not-zero, rebuild-bad, rebuild-refused, rebuild-unfit, rebuild-good}
 use borrow.Author.Needs.{needs}
 use Rattle.stripe.proofs.rebuild.Statement.{statement}
@@ -44,7 +45,7 @@ returns-7 c = rebuild-unfit _ _ _ _ _ _ (c .before .before .before .before .befo
 restore-requires : tie.Need-restore-requires
 restore-requires c κs =
     let tests = c .before in
-    (tests .before .before .before .if5 .left, cc (tests .before .if6 .left, tests .if7 .left))
+    (tests .before .before .before .if5 .left, sym (parts-long _ (tests .before .if6 .left) (tests .if7 .left)))
 
 same-length : tie.Need-same-length
 same-length c = search needs
