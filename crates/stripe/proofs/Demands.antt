@@ -1,31 +1,52 @@
--- Demand 3, on the definitions that the contracts cite: parity's guard errors, parts that are lost and rebuilt, parity that is corrected; and that every
--- outcome is settled. Each is stated over any number of members and any part.
+-- Demand 3, on the definitions that the contracts cite and then for the calls themselves: parity's guard errors, parts that are lost and rebuilt,
+-- parity that is corrected; and that every outcome is settled. Each is stated over any number of members and any part.
 -- Assumes nothing.
 use mathlib.Core.Path.{_≡_, sym, ap, ap₂, _∙_}
 use mathlib.Core.Logic.{_↔_}
 use mathlib.Core.Bool.{Bool, true, false, not, _&&_, cond}
 use mathlib.Core.List.{List, _++_}
 use Prim.Native.Nat.{ℕ, zero, suc, _+_, _*_, _≤_, _<_}
+use native.Mathlib.Nat.{add-mul, mul-assoc}
 use native.Mathlib.Numerals.{add-one}
 use native.Mathlib.Omega.{arith}
 use borrow.Author.Tests.{eq-eqb}
+use lib.Bits.{bitXor, xor-zero-l, xor-self}
 use lib.Dec.{T-not, eqb, eqb→eq}
 use lib.ListN.{length, drop, length-drop}
 use Rattle.words.specs.Parts.{Bytes, put}
 use Rattle.words.specs.Xor.{xors}
+use Rattle.words.proofs.BitXor.{xor-cancel}
+use Rattle.words.proofs.Parts.{put-length}
 use Rattle.words.proofs.Xor.{xors-drop, xors-length, xors-cancel}
+use Rattle.guard.specs.Guard.{guard}
+use Rattle.judge.specs.Judge.{dataOf, fieldOf, storedGuard}
 use Rattle.answer.specs.declared.Answer.{Answer}
 use Rattle.answer.specs.declared.Answer.the-variants as answers
 use Rattle.segment.specs.declared.Description.{Description}
-use Rattle.segment.specs.Segment.{isSegment, intervalsOf, storedOf, lengthOf}
+use Rattle.segment.specs.Segment.{Segment, isSegment, intervalsOf, sizeOf, storedOf, lengthOf}
+use Rattle.segment.proofs.Laws.{stored-intervals}
 use Rattle.stripe.specs.Stripe.{part, xorParts, parityOf, rebuiltOf, correctedOf, Striped, striped, stripedOf, members, madeOf, restoredOf, mendedOf}
-use Rattle.stripe.specs.Error.{errorAt, memberError, xorOver}
+use Rattle.stripe.specs.Fit.{Making, Rebuilding, Correcting}
+use Rattle.stripe.specs.Error.{errorAt, memberError, beginOf, errorIn, xorOver}
 use Rattle.stripe.specs.Cases.{parityCase}
-use Rattle.stripe.proofs.Sums.{by-side, any-part, all-but-one, others-only, rebuiltOf-length, ends, part-length, put-part, put-other}
+use Rattle.stripe.proofs.Sums.{by-side, member-part, parity-part, any-part, all-but-one, others-only, parityOf-length, rebuiltOf-length, ends, part-length, put-part, put-other}
 use Rattle.stripe.proofs.Ladder.{same}
+use Rattle.stripe.proofs.Fits.{not-zero, make-is, make-only, rebuild-is, rebuild-only, correct-is, correct-only}
 use Rattle.stripe.proofs.Errors.{error-xors, drop-bytes, over-zero, over-one, of-parity}
 
 -- ---- guard errors
+
+-- an interval's guard error is 0 exactly if its stored guard is the guard of its data
+pub right-exactly : (size : ℕ) (s : List ℕ) → (errorAt size s ≡ 0) ↔ (storedGuard (fieldOf size s) ≡ guard (dataOf size s))
+unfolding errorAt
+right-exactly size s = (
+  λ e.
+      sym (xor-cancel (storedGuard (fieldOf size s)) (guard (dataOf size s)))
+      ∙ ap (λ (x : ℕ). bitXor x (guard (dataOf size s))) e
+      ∙ xor-zero-l (guard (dataOf size s)),
+  λ e. ap (λ (x : ℕ). bitXor x (guard (dataOf size s))) e ∙ xor-self (guard (dataOf size s)),
+)
+
 module _ (long k size o : ℕ) (s : List ℕ) (bytes : Bytes s) (whole : length s ≡ k * long) where
   -- the parity's guard error at an interval is the exclusive or of the members' errors there, right or wrong
   pub parity-error : errorAt size (drop o (parityOf long k s)) ≡ xorOver k (memberError long size o s)
@@ -92,6 +113,127 @@ unfolding correctedOf
 there-and-back old new p eo en =
     let once : length (xors p old) ≡ length new = xors-length p old (sym eo) ∙ sym en in
     ap (λ (l : List ℕ). xors l old) (xors-cancel (xors p old) new once) ∙ xors-cancel p old (sym eo)
+
+-- ---- exactly when a call is good, and what it then leaves: `striped answers.Good l` is the outcome of a call that is good and leaves l
+
+-- a good outcome that a definition gives is what the definition leaves
+leaves : (x : Striped) (l new : List ℕ) → x ≡ striped answers.Good new → striped answers.Good l ≡ x → l ≡ new
+leaves x l new is e = ap (λ (y : Striped). y .lent) (e ∙ is)
+
+answered : (x : Striped) (l : List ℕ) → striped answers.Good l ≡ x → x .answer ≡ answers.Good
+answered x l e = sym (ap (λ (y : Striped). y .answer) e)
+
+module _ (d : Description) (k : ℕ) (s out : List ℕ) where
+  pub make-good-exactly : (madeOf d k s out .answer ≡ answers.Good) ↔ Making d k s out
+  make-good-exactly = (make-only d k s out, λ m. ap (λ (y : Striped). y .answer) (make-is d k s out m))
+
+  pub make-leaves : (l : List ℕ) → striped answers.Good l ≡ madeOf d k s out → (l ≡ parityOf (lengthOf d) k s) × (length l ≡ lengthOf d)
+  make-leaves l e =
+      let m = make-only d k s out (answered _ l e) in
+      let is = leaves _ l _ (make-is d k s out m) e in
+      (is, ap length is ∙ parityOf-length (lengthOf d) k s (omega (arith, m .whole)))
+
+module _ (d : Description) (k lost : ℕ) (s out : List ℕ) where
+  pub rebuild-good-exactly : (restoredOf d k lost s out .answer ≡ answers.Good) ↔ Rebuilding d k lost s out
+  rebuild-good-exactly = (rebuild-only d k lost s out, λ m. ap (λ (y : Striped). y .answer) (rebuild-is d k lost s out m))
+
+  pub rebuild-leaves : (l : List ℕ) → striped answers.Good l ≡ restoredOf d k lost s out → (l ≡ rebuiltOf (lengthOf d) k lost s) × (length l ≡ lengthOf d)
+  rebuild-leaves l e =
+      let m = rebuild-only d k lost s out (answered _ l e) in
+      let is = leaves _ l _ (rebuild-is d k lost s out m) e in
+      (is, ap length is ∙ rebuiltOf-length (lengthOf d) k lost s (m .among) (m .whole))
+
+corrected-length : (old new parity : List ℕ) (long : ℕ) → length old ≡ long → length new ≡ long → length parity ≡ long → length (correctedOf old new parity) ≡ long
+unfolding correctedOf
+corrected-length old new parity long o n p =
+    let once : length (xors parity old) ≡ long = xors-length parity old (p ∙ sym o) ∙ p in
+    xors-length (xors parity old) new (once ∙ sym n) ∙ once
+
+module _ (d : Description) (old new parity : List ℕ) where
+  pub correct-good-exactly : (mendedOf d old new parity .answer ≡ answers.Good) ↔ Correcting d old new parity
+  correct-good-exactly = (correct-only d old new parity, λ m. ap (λ (y : Striped). y .answer) (correct-is d old new parity m))
+
+  pub correct-leaves : (l : List ℕ) → striped answers.Good l ≡ mendedOf d old new parity → (l ≡ correctedOf old new parity) × (length l ≡ lengthOf d)
+  correct-leaves l e =
+      let m = correct-only d old new parity (answered _ l e) in
+      let is = leaves _ l _ (correct-is d old new parity m) e in
+      (is, ap length is ∙ corrected-length old new parity (lengthOf d) (m .old-whole) (m .new-whole) (m .room))
+
+-- ---- the places of a segment's intervals
+module _ (d : Description) (segment : Segment d) (typed : 1 ≤ d .kind) (j i : ℕ) where
+  -- block j, and in it interval i
+  pub begin-in-block : beginOf d j i ≡ j * storedOf d + i * (sizeOf d + 8)
+  unfolding beginOf
+  begin-in-block =
+      add-mul (j * intervalsOf d) i (sizeOf d + 8)
+      ∙ ap (λ (x : ℕ). x + i * (sizeOf d + 8))
+      (mul-assoc j (intervalsOf d) (sizeOf d + 8) ∙ ap (λ (x : ℕ). j * x) (sym (stored-intervals d segment (not-zero (d .kind) typed))))
+
+  -- an interval and its field end within the segment
+  pub interval-within : j < d .count → i < intervalsOf d → beginOf d j i + (sizeOf d + 8) ≤ lengthOf d
+  unfolding lengthOf
+  interval-within h l =
+      let stored = stored-intervals d segment (not-zero (d .kind) typed) in
+      omega (arith, begin-in-block, stored, ends (sizeOf d + 8) i (intervalsOf d) l, ends (storedOf d) j (d .count) h)
+
+-- ---- demand 3 for the calls: a good `make` of k members left `parity`
+module _ (d : Description) (k : ℕ) (s out parity : List ℕ) (made : striped answers.Good parity ≡ madeOf d k s out) where
+  making : Making d k s out
+  making = make-only d k s out (answered _ parity made)
+
+  is-parity : parity ≡ parityOf (lengthOf d) k s
+  is-parity = make-leaves d k s out parity made .0
+
+  module _ (bytes : Bytes s) (j i : ℕ) where
+    -- at each interval the parity's guard error is the exclusive or of the members' guard errors there, right or wrong
+    pub made-error : errorIn d j i parity ≡ xorOver k (λ m. errorIn d j i (part (lengthOf d) m s))
+    made-error = rw is-parity (parity-error (lengthOf d) k (sizeOf d) (beginOf d j i) s bytes (making .whole))
+
+    module _ (m : ℕ) (among : m < k) (others : (n : ℕ) → n < k → (n ≡ m → ⊥) → errorIn d j i (part (lengthOf d) n s) ≡ 0) where
+      -- where at most one member errs, the parity's error is that member's
+      pub made-one-errs : errorIn d j i parity ≡ errorIn d j i (part (lengthOf d) m s)
+      made-one-errs = rw is-parity (one-errs (lengthOf d) k (sizeOf d) (beginOf d j i) s bytes (making .whole) m among others)
+
+      -- so that the parity errs exactly if a member does
+      pub made-errs-alike : (errorIn d j i parity ≡ 0) ↔ ((n : ℕ) → n < k → errorIn d j i (part (lengthOf d) n s) ≡ 0)
+      made-errs-alike = rw is-parity (errs-alike (lengthOf d) k (sizeOf d) (beginOf d j i) s bytes (making .whole) m among others)
+
+  -- of parts that agree with the members and their parity in every part but the lost one, whose bytes are arbitrary, `rebuild` is good and leaves the
+  -- lost part, byte for byte
+  pub lost-comes-back : (lost : ℕ) (parts room : List ℕ) → lost ≤ k → length parts ≡ (k + 1) * lengthOf d → length room ≡ lengthOf d
+      → ((j : ℕ) → j ≤ k → (j ≡ lost → ⊥) → part (lengthOf d) j parts ≡ part (lengthOf d) j (s ++ parity))
+      → restoredOf d k lost parts room ≡ striped answers.Good (part (lengthOf d) lost (s ++ parity))
+  lost-comes-back lost parts room among whole fits agree =
+      let m = making in
+      rebuild-is d k lost parts room
+      (record { segment = m .segment; typed = m .typed; some = m .some; few = m .few; among = among; whole = whole; room = fits })
+      ∙ ap (striped answers.Good)
+      (lost-not-used (lengthOf d) k lost parts (s ++ parity) among agree
+      ∙ lost-and-rebuilt (lengthOf d) k lost s (s ++ parity) (m .whole) among (ap (λ (l : List ℕ). s ++ l) is-parity))
+
+  -- the lost part is member `lost`, or the parity itself where `lost` is k
+  pub lost-member : (lost : ℕ) → lost < k → part (lengthOf d) lost (s ++ parity) ≡ part (lengthOf d) lost s
+  lost-member lost h = rw is-parity (member-part (lengthOf d) k s (making .whole) lost h)
+
+  pub lost-parity : part (lengthOf d) k (s ++ parity) ≡ parity
+  lost-parity = rw is-parity (parity-part (lengthOf d) k s (making .whole))
+
+  -- where member m's bytes become new ones, `correct` leaves of the parity what `make` makes afresh of the new members
+  pub correct-makes-afresh : (m : ℕ) (old new room : List ℕ) → m < k → old ≡ part (lengthOf d) m s → length new ≡ lengthOf d → length room ≡ lengthOf d
+      → mendedOf d old new parity ≡ madeOf d k (put (m * lengthOf d) new s) room
+  correct-makes-afresh m old new room among is size fits =
+      let f = making in
+      let old-whole : length old ≡ lengthOf d = ap length is ∙ part-length (lengthOf d) m k s among (f .whole) in
+      correct-is d old new parity
+      (record { segment = f .segment; typed = f .typed; old-whole = old-whole; new-whole = size; room = make-leaves d k s out parity made .1 })
+      ∙ ap (striped answers.Good)
+      (ap (correctedOf old new) is-parity ∙ corrected-is-fresh (lengthOf d) k m s old new (f .whole) among is size)
+      ∙ sym
+      (make-is d k (put (m * lengthOf d) new s) room
+      (record { segment = f .segment; typed = f .typed; some = f .some; few = f .few; whole = put-whole; room = fits }))
+    where
+      put-whole : length (put (m * lengthOf d) new s) ≡ k * lengthOf d
+      put-whole = put-length (m * lengthOf d) new s (rw (size, making .whole) (ends (lengthOf d) m k among)) ∙ making .whole
 
 -- ---- every outcome is settled
 

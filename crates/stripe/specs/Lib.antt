@@ -1,4 +1,5 @@
 pub mod Stripe
+pub mod Fit
 pub mod Stretch
 pub mod Error
 pub mod Cases

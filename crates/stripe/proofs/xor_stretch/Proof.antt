@@ -73,6 +73,9 @@ last {piece₀} {piece = piece} {at = at} {left = left} {i = i} g h n w =
     let one : i + at + length piece - (i + at) ≡ length piece₀ = omega (arith, g .kept) in
     end-made _ _ (left - 1) _ _ _ (omega arith) (turn g (omega arith) (rw one at w) .made)
 
+two-less : (left : ℕ) → 1 < left → left - 2 < left
+two-less left h = omega arith
+
 abbrev Inv-loop : tie.InvT-loop
 Inv-loop piece₀ at parts long count left₀ i₀ piece left i = Going piece₀ parts at long count piece left i
 
@@ -131,10 +134,12 @@ sub-left : tie.Need-sub-left Inv-loop μ-loop
 sub-left c = search needs
 
 loop-less : tie.Need-loop-less Inv-loop μ-loop
-loop-less c = search needs
+loop-less c = two-less _ (c .before .before .before .before .before .before .loop-test .taken)
 
 loop-again : tie.Need-loop-again Inv-loop μ-loop
-loop-again c = search turn-two
+loop-again c =
+    let test = c .before .before .before .before .before .before in
+    turn-two (test .before .loop .inv) (test .loop-test .taken) (c .before .before .xor-two .ensures)
 
 same-length : tie.Need-same-length Inv-loop μ-loop
 same-length c = search needs
