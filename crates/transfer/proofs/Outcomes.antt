@@ -18,7 +18,8 @@ use Rattle.admission.specs.declared.Admitted.the-variants.{Refused, Go}
 use Rattle.admission.specs.Admission.{isVerify, admitted}
 use Rattle.admission.specs.Ready.{Ready}
 use Rattle.admission.proofs.Rules.{room-moved}
-use Rattle.transfer.specs.Transfer.{outcome, keep, offsetOf, spanOf, blocksOf, judgedIn, judgedFor, judged, handed, received, overwritten, performedFor, performed, executedAs, executed, Shaped, Placed, Fitted, ReadDone, WriteDone}
+use Rattle.transfer.specs.Transfer.{outcome, keep, offsetOf, spanOf, blocksOf, judgedIn, judgedFor, judged, handed, received, overwritten, performedFor, performed, executedAs, executed}
+use Rattle.transfer.specs.Inner.{Shaped, Placed, Fitted, ReadDone, WriteDone}
 use Rattle.transfer.proofs.Shapes.{span-within}
 
 -- ---- what admission settled

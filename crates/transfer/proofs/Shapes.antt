@@ -23,7 +23,8 @@ use Rattle.blocks.specs.Blocks.{stripped, storedBlocks}
 use Rattle.admission.specs.Admission.{movedOf}
 use Rattle.admission.specs.Ready.{Ready}
 use Rattle.admission.proofs.Rules.{moved-plain, moved-whole}
-use Rattle.transfer.specs.Transfer.{whole, offsetOf, spanOf, judgedIn, handed, received, Shaped, Placed, Fitted}
+use Rattle.transfer.specs.Transfer.{whole, offsetOf, spanOf, judgedIn, handed, received}
+use Rattle.transfer.specs.Inner.{Shaped, Placed, Fitted}
 
 -- ---- whole blocks or user data
 pub whole-plain : (d : Description) (c : Command) → d .kind ≡ 0 → whole d c ≡ true

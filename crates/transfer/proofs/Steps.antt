@@ -12,7 +12,8 @@ use Rattle.answer.specs.declared.Answer.{Answer}
 use Rattle.answer.specs.declared.Answer.the-variants as answers
 use Rattle.segment.specs.declared.Description.{Description}
 use Rattle.command.specs.declared.Command.{Command}
-use Rattle.transfer.specs.Transfer.{judgedIn, handed, received, keep, Shaped, Placed, Fitted, ReadDone, WriteDone}
+use Rattle.transfer.specs.Transfer.{judgedIn, handed, received, keep}
+use Rattle.transfer.specs.Inner.{Shaped, Placed, Fitted, ReadDone, WriteDone}
 use Rattle.transfer.proofs.Shapes.{moved-span}
 
 kept : (a : Answer) (g : Bool) (old new left : List ℕ) → g ≡ isGood a → g ≡ true → left ≡ new → left ≡ keep a old new

@@ -2,3 +2,4 @@ pub mod Transfer
 pub mod Checked
 pub mod Compared
 pub mod Inserted
+pub mod Inner

@@ -1,6 +1,5 @@
 -- What a command does: its answer, and every lent byte afterwards.
-use Prim.Native.Nat.{ℕ, _+_, _*_, _-_, _^_, _≤_}
-use mathlib.Core.Path.{_≡_}
+use Prim.Native.Nat.{ℕ, _*_, _-_}
 use mathlib.Core.Bool.{Bool, true, false, not, _||_, cond}
 use mathlib.Core.List.{List}
 use lib.Dec.{eqb}
@@ -10,7 +9,7 @@ use Rattle.answer.specs.Answer.{isGood}
 use Rattle.answer.specs.declared.Answer.{Answer}
 use Rattle.answer.specs.declared.Answer.the-variants as answers
 use Rattle.segment.specs.declared.Description.{Description}
-use Rattle.segment.specs.Segment.{Segment, intervalsOf, sizeOf, storedOf}
+use Rattle.segment.specs.Segment.{intervalsOf, sizeOf, storedOf}
 use Rattle.command.specs.declared.Command.{Command}
 use Rattle.command.specs.declared.Operation.{Operation}
 use Rattle.command.specs.declared.Operation.the-variants.{Read, Write, Verify}
@@ -20,7 +19,7 @@ use Rattle.checks.specs.Checks.{rulesOf, startOf}
 use Rattle.checks.specs.Inserted.{marksOf}
 use Rattle.admission.specs.declared.Admitted.{Admitted}
 use Rattle.admission.specs.declared.Admitted.the-variants.{Refused, Go}
-use Rattle.admission.specs.Admission.{admitted, movedOf}
+use Rattle.admission.specs.Admission.{admitted}
 
 pub record Outcome : Type 0 where
   pub answer : Answer
@@ -92,32 +91,3 @@ executedAs (Go c) d segment buffer = performed d c segment buffer
 -- every command on every segment, description and buffer
 unfoldable pub executed : Description → List ℕ → List ℕ → List ℕ → Outcome
 executed d segment command buffer = executedAs (admitted d (length segment) command (length buffer)) d segment buffer
-
--- ---- what the parts of `execute` ask of their callers and promise
-
--- n bytes are the transfer's blocks
-pub record Shaped (d : Description) (c : Command) (n : ℕ) : Type 0 where
-  pub described : Segment d
-  pub few : c .length ≤ 65536
-  pub end : c .address + c .length ≤ 2 ^ 63
-  pub long : n ≡ spanOf d c
-
--- its blocks lie in n bytes from `at` on
-pub record Placed (d : Description) (c : Command) (at n : ℕ) : Type 0 where
-  pub described : Segment d
-  pub few : c .length ≤ 65536
-  pub end : c .address + c .length ≤ 2 ^ 63
-  pub fits : at + spanOf d c ≤ n
-
--- n bytes are its buffer
-pub record Fitted (d : Description) (c : Command) (n : ℕ) : Type 0 where
-  pub room : n ≡ movedOf d c
-  pub plain : d .kind ≡ 0 → c .code ≡ 0
-
-pub record ReadDone (d : Description) (c : Command) (s buffer : List ℕ) (a : Answer) (left : List ℕ) : Type 0 where
-  pub answer : a ≡ judgedIn d c s
-  pub lent : left ≡ keep a buffer (handed d c s)
-
-pub record WriteDone (d : Description) (c : Command) (at : ℕ) (segment buffer : List ℕ) (a : Answer) (left : List ℕ) : Type 0 where
-  pub answer : a ≡ cond (eqb (c .code) 0) answers.Good (judgedIn d c buffer)
-  pub lent : left ≡ keep a segment (put at (received d c buffer) segment)
