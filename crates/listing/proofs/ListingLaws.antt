@@ -27,7 +27,7 @@ use Rattle.listing.specs.declared.Sheet.{Sheet}
 use Rattle.listing.specs.Lines.{blockLines, headerText, intervalsText, faultsText, skippedText, numbersText, totalText, Printed, Room}
 use Rattle.listing.specs.Record.{recordAnswer, describedBy, segmentIn}
 use Rattle.listing.specs.Listing.{readAll, linesOf, listedText, refusedText, listing, Listed}
-use Rattle.listing.proofs.SheetLaws.{sheet, printed-none, printed-as, room-next, room-less}
+use Rattle.listing.proofs.SheetLaws.{sheet, printed-none, printed-as, room-next, room-less, first-room}
 use Rattle.listing.proofs.BlockLaws.{blocks-length}
 use Rattle.listing.proofs.RecordLaws.{Whole, record-whole}
 
@@ -107,8 +107,7 @@ module _ (d : Description) (s : List ℕ) (g : Segment d) (long : lengthOf d ≡
   -- the place after the lines
   pub lines-end : {at : ℕ} {u : Sheet} {o left : List ℕ} → at ≤ 2 ^ 16 → length s ≤ 65536 → Printed (linesOf d s) (sheet at 0 0 0) o u left → u .at ≤ 2 ^ 31
   lines-end {at} {u} small few w =
-      let room : Room (sheet at 0 0 0) (length (linesOf d s) + 0) =
-      room-less _ 65536 (omega (arith, lines-length)) (record { at = omega arith; lines = omega arith; faults = omega arith; skipped = omega arith }) in
+      let room : Room (sheet at 0 0 0) (length (linesOf d s) + 0) = first-room at _ small (omega (arith, lines-length)) in
       omega (arith, room-next 0 room w .at)
 
 -- ---- all of it

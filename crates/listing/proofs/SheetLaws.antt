@@ -2,7 +2,7 @@
 -- Assumes nothing.
 use mathlib.Core.Path.{_≡_, refl, sym}
 use mathlib.Core.List.{List, [], _∷_, _++_, append-assoc, append-nil}
-use Prim.Native.Nat.{ℕ, _+_, _*_, _≤_}
+use Prim.Native.Nat.{ℕ, _+_, _*_, _^_, _≤_}
 use native.Mathlib.Nat.{add-zero}
 use native.Mathlib.Omega.{arith}
 use lib.ListN.{length, length-append}
@@ -96,3 +96,7 @@ room-next {a} {t} {u} k r p =
 pub room-less : {t : Sheet} (k n : ℕ) → k ≤ n → Room t n → Room t k
 room-less k n h r =
     record { at = omega (arith, r .at); lines = omega (arith, r .lines); faults = omega (arith, r .faults); skipped = omega (arith, r .skipped) }
+
+-- a sheet of which nothing is printed but a first line has room for as many lines as a record has bytes
+pub first-room : (at k : ℕ) → at ≤ 2 ^ 16 → k ≤ 65536 → Room (sheet at 0 0 0) k
+first-room at k small few = record { at = omega arith; lines = omega arith; faults = omega arith; skipped = omega arith }

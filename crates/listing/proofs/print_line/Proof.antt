@@ -9,28 +9,28 @@ use Rattle.listing.proofs.print_line.Statement.{statement}
 use Rattle.listing.proofs.print_line.Tie as tie
 
 decimal-then-requires : tie.Need-decimal-then-requires
-decimal-then-requires c κs = search needs
+decimal-then-requires c κs = omega (arith, c .before .before .pre)
 
 decimal-then-requires-2 : tie.Need-decimal-then-requires-2
-decimal-then-requires-2 c κs = omega (arith, decimal-then-end _ _ (c .before .before .before .decimal-then .ensures))
+decimal-then-requires-2 c κs = omega (arith, c .before .before .before .before .before .before .pre, decimal-then-end _ _ (c .before .before .before .decimal-then .ensures))
 
 cast-hexadecimal-then : tie.Need-cast-hexadecimal-then
-cast-hexadecimal-then c = search needs
+cast-hexadecimal-then c = omega (arith, c .struct-known .given)
 
 hexadecimal-then-requires : tie.Need-hexadecimal-then-requires
-hexadecimal-then-requires c κs = omega (arith, decimal-then-end _ _ (c .before .before .before .before .before .before .before .before .decimal-then .ensures), decimal-then-end _ _ (c .before .before .before .before .decimal-then2 .ensures))
+hexadecimal-then-requires c κs = omega (arith, c .before .before .before .before .before .before .before .before .before .before .before .pre, decimal-then-end _ _ (c .before .before .before .before .before .before .before .before .decimal-then .ensures), decimal-then-end _ _ (c .before .before .before .before .decimal-then2 .ensures))
 
 cast-hexadecimal-then-2 : tie.Need-cast-hexadecimal-then-2
-cast-hexadecimal-then-2 c = search needs
+cast-hexadecimal-then-2 c = omega (arith, c .struct-known2 .given)
 
 hexadecimal-then-requires-2 : tie.Need-hexadecimal-then-requires-2
-hexadecimal-then-requires-2 c κs = omega (arith, decimal-then-end _ _ (c .before .before .before .before .before .before .before .before .before .before .before .before .before .decimal-then .ensures), decimal-then-end _ _ (c .before .before .before .before .before .before .before .before .before .decimal-then2 .ensures), hexadecimal-then-end 4 _ _ (c .before .before .before .before .hexadecimal-then .ensures))
+hexadecimal-then-requires-2 c κs = omega (arith, c .before .before .before .before .before .before .before .before .before .before .before .before .before .before .before .before .pre, decimal-then-end _ _ (c .before .before .before .before .before .before .before .before .before .before .before .before .before .decimal-then .ensures), decimal-then-end _ _ (c .before .before .before .before .before .before .before .before .before .decimal-then2 .ensures), hexadecimal-then-end 4 _ _ (c .before .before .before .before .hexadecimal-then .ensures))
 
 cast-hexadecimal-then-3 : tie.Need-cast-hexadecimal-then-3
-cast-hexadecimal-then-3 c = search needs
+cast-hexadecimal-then-3 c = omega (arith, c .struct-known3 .given)
 
 hexadecimal-then-requires-3 : tie.Need-hexadecimal-then-requires-3
-hexadecimal-then-requires-3 c κs = omega (arith, decimal-then-end _ _ (c .before .before .before .before .before .before .before .before .before .before .before .before .before .before .before .before .before .before .decimal-then .ensures), decimal-then-end _ _ (c .before .before .before .before .before .before .before .before .before .before .before .before .before .before .decimal-then2 .ensures), hexadecimal-then-end 4 _ _ (c .before .before .before .before .before .before .before .before .before .hexadecimal-then .ensures), hexadecimal-then-end 4 _ _ (c .before .before .before .before .hexadecimal-then2 .ensures))
+hexadecimal-then-requires-3 c κs = omega (arith, c .before .before .before .before .before .before .before .before .before .before .before .before .before .before .before .before .before .before .before .before .before .pre, decimal-then-end _ _ (c .before .before .before .before .before .before .before .before .before .before .before .before .before .before .before .before .before .before .decimal-then .ensures), decimal-then-end _ _ (c .before .before .before .before .before .before .before .before .before .before .before .before .before .before .decimal-then2 .ensures), hexadecimal-then-end 4 _ _ (c .before .before .before .before .before .before .before .before .before .hexadecimal-then .ensures), hexadecimal-then-end 4 _ _ (c .before .before .before .before .hexadecimal-then2 .ensures))
 
 print-state-requires : tie.Need-print-state-requires
 print-state-requires c κs = omega (arith, c .before .before .before .before .before .before .before .before .before .before .before .before .before .before .before .before .before .before .before .before .before .before .before .before .before .pre, decimal-then-end _ _ (c .before .before .before .before .before .before .before .before .before .before .before .before .before .before .before .before .before .before .before .before .before .before .decimal-then .ensures), decimal-then-end _ _ (c .before .before .before .before .before .before .before .before .before .before .before .before .before .before .before .before .before .before .decimal-then2 .ensures), hexadecimal-then-end 4 _ _ (c .before .before .before .before .before .before .before .before .before .before .before .before .before .hexadecimal-then .ensures), hexadecimal-then-end 4 _ _ (c .before .before .before .before .before .before .before .before .hexadecimal-then2 .ensures), hexadecimal-then-end 8 _ _ (c .before .before .before .hexadecimal-then3 .ensures))

@@ -1,6 +1,10 @@
 -- `listing::print_listed`: header, lines and last line, one after another.
 -- Assumes nothing.
+use mathlib.Core.Path.{refl}
 use native.Mathlib.Omega.{arith}
+use lib.Dec.{lit≤}
+use Rattle.text.proofs.Writing.{written-length}
+use Rattle.listing.proofs.SheetLaws.{first-room}
 use Rattle.listing.proofs.ListingLaws.{lines-end, listed-written}
 use Rattle.listing.specs.Lines.{headerText}
 use borrow.Author.Needs.{needs}
@@ -8,23 +12,25 @@ use Rattle.listing.proofs.print_listed.Statement.{statement}
 use Rattle.listing.proofs.print_listed.Tie as tie
 
 slice-aggregate-put-word : tie.Need-slice-aggregate-put-word
-slice-aggregate-put-word c = search needs
+slice-aggregate-put-word c = refl
 
 put-word-requires : tie.Need-put-word-requires
-put-word-requires c κs = search needs
+put-word-requires c κs = lit≤ tt
 
 print-segment-requires : tie.Need-print-segment-requires
-print-segment-requires c κs = search needs
+print-segment-requires c κs =
+    let pre = c .before .before .before .before .before .before .before .before .pre in
+    (pre .0, (pre .1 .0, first-room _ _ (omega (arith, c .before .before .before .put-word .ensures .end)) (pre .1 .1)))
 
 print-total-requires : tie.Need-print-total-requires
 print-total-requires c κs = omega (arith, lines-end _ _ (c .before .before .before .before .before .before .before .before .before .before .before .before .pre .0) (c .before .before .before .before .before .before .before .before .before .before .before .before .pre .1 .0) (omega (arith, c .before .before .before .before .before .before .before .put-word .ensures .end)) (c .before .before .before .before .before .before .before .before .before .before .before .before .pre .1 .1) (c .before .before .before .print-segment .ensures))
 
-same-length : tie.Need-same-length
-same-length c = search needs
-
 returns : tie.Need-returns
 unfolding headerText
 returns c = listed-written _ _ (c .before .before .before .before .before .before .before .before .before .before .put-word .ensures) (c .before .before .before .before .before .before .print-segment .ensures) (c .before .before .print-total .ensures)
+
+same-length : tie.Need-same-length
+same-length c = written-length (returns c)
 
 pub print-listed-spec : {M : Type 1} → statement M
 print-listed-spec =

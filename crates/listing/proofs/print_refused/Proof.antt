@@ -1,12 +1,13 @@
 -- `listing::print_refused`: the word, then the number and the end of the line.
 -- Assumes nothing.
+use mathlib.Core.Path.{refl}
 use Rattle.listing.proofs.ListingLaws.{refused-written}
 use borrow.Author.Needs.{needs}
 use Rattle.listing.proofs.print_refused.Statement.{statement}
 use Rattle.listing.proofs.print_refused.Tie as tie
 
 slice-aggregate-put-word : tie.Need-slice-aggregate-put-word
-slice-aggregate-put-word c = search needs
+slice-aggregate-put-word c = refl
 
 put-word-requires : tie.Need-put-word-requires
 put-word-requires c κs = search needs

@@ -1,5 +1,6 @@
 -- `listing::print_total`: words and numbers, one after another, each with room left for those behind it.
 -- Assumes nothing.
+use mathlib.Core.Path.{refl}
 use native.Mathlib.Omega.{arith}
 use Rattle.text.proofs.Writing.{written-length}
 use Rattle.text.proofs.Digits.{decimal-end}
@@ -10,7 +11,7 @@ use Rattle.listing.proofs.print_total.Statement.{statement}
 use Rattle.listing.proofs.print_total.Tie as tie
 
 slice-aggregate-put-word : tie.Need-slice-aggregate-put-word
-slice-aggregate-put-word c = search needs
+slice-aggregate-put-word c = refl
 
 put-word-requires : tie.Need-put-word-requires
 put-word-requires c κs = search needs
@@ -19,7 +20,7 @@ decimal-requires : tie.Need-decimal-requires
 decimal-requires c κs = search needs
 
 slice-aggregate-put-word-2 : tie.Need-slice-aggregate-put-word-2
-slice-aggregate-put-word-2 c = search needs
+slice-aggregate-put-word-2 c = refl
 
 put-word-requires-2 : tie.Need-put-word-requires-2
 put-word-requires-2 c κs = omega (arith, c .before .before .before .before .before .before .before .before .before .before .before .before .pre, c .before .before .before .before .before .before .before .before .put-word .ensures .end, decimal-end _ (c .before .before .before .before .decimal .ensures))
@@ -28,7 +29,7 @@ decimal-requires-2 : tie.Need-decimal-requires-2
 decimal-requires-2 c κs = omega (arith, c .before .before .before .before .before .before .before .before .before .before .before .before .before .before .before .before .pre, c .before .before .before .before .before .before .before .before .before .before .before .before .put-word .ensures .end, decimal-end _ (c .before .before .before .before .before .before .before .before .decimal .ensures), c .before .before .before .put-word2 .ensures .end)
 
 slice-aggregate-put-word-3 : tie.Need-slice-aggregate-put-word-3
-slice-aggregate-put-word-3 c = search needs
+slice-aggregate-put-word-3 c = refl
 
 put-word-requires-3 : tie.Need-put-word-requires-3
 put-word-requires-3 c κs = omega (arith, c .before .before .before .before .before .before .before .before .before .before .before .before .before .before .before .before .before .before .before .before .before .pre, c .before .before .before .before .before .before .before .before .before .before .before .before .before .before .before .before .before .put-word .ensures .end, decimal-end _ (c .before .before .before .before .before .before .before .before .before .before .before .before .before .decimal .ensures), c .before .before .before .before .before .before .before .before .put-word2 .ensures .end, decimal-end _ (c .before .before .before .before .decimal2 .ensures))
