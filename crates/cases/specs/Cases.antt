@@ -8,7 +8,7 @@ use Rattle.guard.specs.Vectors.{Vector, vectors}
 use Rattle.answer.specs.Answer.{numberOf, addressOf, placeOf}
 use Rattle.segment.specs.declared.Description.{Description}
 use Rattle.transfer.specs.Transfer.{Outcome, executed}
-use Rattle.stripe.specs.Stripe.{Striped, madeOf}
+use Rattle.stripe.specs.Stripe.{Striped, makeAnswered}
 use Rattle.stripe.specs.Cases.{ParityCase, parityCase}
 
 -- what comes of a case, in the paper's numbers, with every lent byte afterwards
@@ -42,7 +42,7 @@ madeIn r = made (numberOf (r .answer)) (r .lent)
 abbrev pub result : Case → Result
 result (guardOf v) = guarded (guard (v .bytes))
 result (execute c) = answerOf (executed (c .description) (c .segment) (c .command) (c .buffer))
-result (parity c) = madeIn (madeOf (c .description) (c .count) (c .members) (replicate 16 0))
+result (parity c) = madeIn (makeAnswered (c .description) (c .count) (c .members) (replicate 16 0))
 
 -- by the paper
 abbrev pub expected : Case → Result

@@ -33,7 +33,7 @@ use Rattle.checks.specs.Inserted.{marksOf}
 use Rattle.format.specs.Choice.{choiceOf}
 use Rattle.format.specs.declared.Choice.{Choice}
 use Rattle.format.specs.Fresh.{Filled, filledOf}
-use Rattle.stripe.specs.Stripe.{Striped, madeOf, restoredOf, mendedOf}
+use Rattle.stripe.specs.Stripe.{Striped, makeAnswered, rebuildAnswered, correctAnswered}
 use Rattle.transfer.specs.Transfer.{Outcome, executed}
 use Rattle.text.specs.Text.{decimal, hexadecimal}
 use Rattle.text.specs.Laid.{Written}
@@ -193,13 +193,13 @@ pub fill : (d : Description) (segment : List ℕ) → Determined (λ (f : Filled
 fill d segment = defined _
 
 -- ---- stripe
-pub make : (d : Description) (k : ℕ) (members out : List ℕ) → Determined (λ (x : Striped). x ≡ madeOf d k members out)
+pub make : (d : Description) (k : ℕ) (members out : List ℕ) → Determined (λ (x : Striped). x ≡ makeAnswered d k members out)
 make d k members out = defined _
 
-pub rebuild : (d : Description) (k lost : ℕ) (parts out : List ℕ) → Determined (λ (x : Striped). x ≡ restoredOf d k lost parts out)
+pub rebuild : (d : Description) (k lost : ℕ) (parts out : List ℕ) → Determined (λ (x : Striped). x ≡ rebuildAnswered d k lost parts out)
 rebuild d k lost parts out = defined _
 
-pub correct : (d : Description) (old new parity : List ℕ) → Determined (λ (x : Striped). x ≡ mendedOf d old new parity)
+pub correct : (d : Description) (old new parity : List ℕ) → Determined (λ (x : Striped). x ≡ correctAnswered d old new parity)
 correct d old new parity = defined _
 
 -- ---- transfer

@@ -17,7 +17,7 @@ use Rattle.transfer.proofs.Demands.{refused-leaves-all}
 use Rattle.format.specs.declared.Choice.{Choice}
 use Rattle.format.specs.Fresh.{Filled, filledOf}
 use Rattle.format.proofs.Demands.{fill-keeps}
-use Rattle.stripe.specs.Stripe.{Striped, madeOf, restoredOf, mendedOf}
+use Rattle.stripe.specs.Stripe.{Striped, makeAnswered, rebuildAnswered, correctAnswered}
 use Rattle.stripe.proofs.Demands.{make-keeps, rebuild-keeps, correct-keeps}
 use Rattle.listing.specs.Listing.{Listed}
 use Rattle.guard.specs.Guard.{guard}
@@ -96,19 +96,19 @@ not-good : (a : Answer) → isGood a ≡ false → a ≡ Good → ⊥
 not-good a w g = true≢false (sym (ap isGood g) ∙ w)
 
 pub parity-refused-leaves : (d : Description) (k : ℕ) (members out : List ℕ) (r : ℕ) (l : List ℕ)
-    → StripeAnswered (madeOf d k members out) r l → (r ≡ 0 → ⊥) → l ≡ out
+    → StripeAnswered (makeAnswered d k members out) r l → (r ≡ 0 → ⊥) → l ≡ out
 parity-refused-leaves d k members out r l x n =
-    x .lent ∙ make-keeps d k members out _ _ refl (not-good _ (refused (madeOf d k members out .answer) r (x .answer) n))
+    x .lent ∙ make-keeps d k members out _ _ refl (not-good _ (refused (makeAnswered d k members out .answer) r (x .answer) n))
 
 pub rebuild-refused-leaves : (d : Description) (k lost : ℕ) (parts out : List ℕ) (r : ℕ) (l : List ℕ)
-    → StripeAnswered (restoredOf d k lost parts out) r l → (r ≡ 0 → ⊥) → l ≡ out
+    → StripeAnswered (rebuildAnswered d k lost parts out) r l → (r ≡ 0 → ⊥) → l ≡ out
 rebuild-refused-leaves d k lost parts out r l x n =
-    x .lent ∙ rebuild-keeps d k lost parts out _ _ refl (not-good _ (refused (restoredOf d k lost parts out .answer) r (x .answer) n))
+    x .lent ∙ rebuild-keeps d k lost parts out _ _ refl (not-good _ (refused (rebuildAnswered d k lost parts out .answer) r (x .answer) n))
 
 pub correct-refused-leaves : (d : Description) (old new parity : List ℕ) (r : ℕ) (l : List ℕ)
-    → StripeAnswered (mendedOf d old new parity) r l → (r ≡ 0 → ⊥) → l ≡ parity
+    → StripeAnswered (correctAnswered d old new parity) r l → (r ≡ 0 → ⊥) → l ≡ parity
 correct-refused-leaves d old new parity r l x n =
-    x .lent ∙ correct-keeps d old new parity _ _ refl (not-good _ (refused (mendedOf d old new parity .answer) r (x .answer) n))
+    x .lent ∙ correct-keeps d old new parity _ _ refl (not-good _ (refused (correctAnswered d old new parity .answer) r (x .answer) n))
 
 pub guards-refused-leaves : (s : List ℕ) (size : ℕ) (out : List ℕ) (r : ℕ) (l : List ℕ) → GuardsAnswered s size out r l → (r ≡ 0 → ⊥) → l ≡ out
 unfolding guards

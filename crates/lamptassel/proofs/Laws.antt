@@ -9,7 +9,7 @@ use Rattle.segment.specs.declared.Description.{Description}
 use Rattle.transfer.specs.Transfer.{Outcome, outcome, executed}
 use Rattle.format.specs.declared.Choice.{Choice}
 use Rattle.format.specs.Fresh.{Filled, filled, filledOf}
-use Rattle.stripe.specs.Stripe.{Striped, striped, madeOf, restoredOf, mendedOf}
+use Rattle.stripe.specs.Stripe.{Striped, striped, makeAnswered, rebuildAnswered, correctAnswered}
 use Rattle.lamptassel.specs.Answers.{Executed, Chosen, FillAnswered, StripeAnswered}
 
 pub executed-told : (d d′ : Description) (segment command buffer s b : List ℕ) (x : Answer) (r a p : ℕ) → d ≡ d′
@@ -37,17 +37,17 @@ stripe-told f d d′ l x r same e n =
     let whole : striped x l ≡ f d′ = e ∙ ap f same in
     record { answer = n ∙ ap (λ (y : Striped). numberOf (y .answer)) whole; lent = ap (λ (y : Striped). y .lent) whole }
 
-pub parity-told : (d d′ : Description) (k : ℕ) (s out l : List ℕ) (x : Answer) (r : ℕ) → d ≡ d′ → striped x l ≡ madeOf d k s out → r ≡ numberOf x
-    → StripeAnswered (madeOf d′ k s out) r l
-parity-told d d′ k s out = stripe-told (λ y. madeOf y k s out) d d′
+pub parity-told : (d d′ : Description) (k : ℕ) (s out l : List ℕ) (x : Answer) (r : ℕ) → d ≡ d′ → striped x l ≡ makeAnswered d k s out → r ≡ numberOf x
+    → StripeAnswered (makeAnswered d′ k s out) r l
+parity-told d d′ k s out = stripe-told (λ y. makeAnswered y k s out) d d′
 
-pub rebuild-told : (d d′ : Description) (k lost : ℕ) (s out l : List ℕ) (x : Answer) (r : ℕ) → d ≡ d′ → striped x l ≡ restoredOf d k lost s out
-    → r ≡ numberOf x → StripeAnswered (restoredOf d′ k lost s out) r l
-rebuild-told d d′ k lost s out = stripe-told (λ y. restoredOf y k lost s out) d d′
+pub rebuild-told : (d d′ : Description) (k lost : ℕ) (s out l : List ℕ) (x : Answer) (r : ℕ) → d ≡ d′ → striped x l ≡ rebuildAnswered d k lost s out
+    → r ≡ numberOf x → StripeAnswered (rebuildAnswered d′ k lost s out) r l
+rebuild-told d d′ k lost s out = stripe-told (λ y. rebuildAnswered y k lost s out) d d′
 
-pub correct-told : (d d′ : Description) (old new parity l : List ℕ) (x : Answer) (r : ℕ) → d ≡ d′ → striped x l ≡ mendedOf d old new parity
-    → r ≡ numberOf x → StripeAnswered (mendedOf d′ old new parity) r l
-correct-told d d′ old new parity = stripe-told (λ y. mendedOf y old new parity) d d′
+pub correct-told : (d d′ : Description) (old new parity l : List ℕ) (x : Answer) (r : ℕ) → d ≡ d′ → striped x l ≡ correctAnswered d old new parity
+    → r ≡ numberOf x → StripeAnswered (correctAnswered d′ old new parity) r l
+correct-told d d′ old new parity = stripe-told (λ y. correctAnswered y old new parity) d d′
 
 pub chosen-told : (c c′ : Choice) (r t : ℕ) → c ≡ c′ → r ≡ numberOf (c .answer) → t ≡ c .kind → Chosen c′ r t
 chosen-told c c′ r t same n k = record { answer = n ∙ ap (λ (y : Choice). numberOf (y .answer)) same; kind = k ∙ ap (λ (y : Choice). y .kind) same }

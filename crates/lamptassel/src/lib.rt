@@ -5,7 +5,7 @@ ghost use Rattle.answer.specs.Answer.{senseNumbered};
 ghost use Rattle.transfer.specs.Transfer.{executed};
 ghost use Rattle.format.specs.Choice.{choiceOf};
 ghost use Rattle.format.specs.Fresh.{filledOf};
-ghost use Rattle.stripe.specs.Stripe.{madeOf, restoredOf, mendedOf};
+ghost use Rattle.stripe.specs.Stripe.{makeAnswered, rebuildAnswered, correctAnswered};
 ghost use Rattle.listing.specs.Listing.{Listed};
 ghost use Rattle.lamptassel.specs.Answers.{described, Executed, Chosen, FillAnswered, StripeAnswered};
 ghost use Rattle.lamptassel.specs.Guards.{GuardsAnswered};
@@ -96,7 +96,7 @@ pub extern "C" fn lamptassel_parity(
     members: &[u8],
     out: &mut [u8],
 ) -> u64
-    ensures { λ r. ⌜ StripeAnswered (madeOf (described kind block exponent first count ato) k (now (members .entry)) (now (out .entry))) r (now (out .exit)) ⌝ }
+    ensures { λ r. ⌜ StripeAnswered (makeAnswered (described kind block exponent first count ato) k (now (members .entry)) (now (out .entry))) r (now (out .exit)) ⌝ }
 {
     let d = described(kind, block, exponent, first, count, ato);
     answer::number(stripe::make(d, k, members, out))
@@ -116,7 +116,7 @@ pub extern "C" fn lamptassel_rebuild(
     parts: &[u8],
     out: &mut [u8],
 ) -> u64
-    ensures { λ r. ⌜ StripeAnswered (restoredOf (described kind block exponent first count ato) k lost (now (parts .entry)) (now (out .entry))) r (now (out .exit)) ⌝ }
+    ensures { λ r. ⌜ StripeAnswered (rebuildAnswered (described kind block exponent first count ato) k lost (now (parts .entry)) (now (out .entry))) r (now (out .exit)) ⌝ }
 {
     let d = described(kind, block, exponent, first, count, ato);
     answer::number(stripe::rebuild(d, k, lost, parts, out))
@@ -135,7 +135,7 @@ pub extern "C" fn lamptassel_correct(
     new: &[u8],
     parity: &mut [u8],
 ) -> u64
-    ensures { λ r. ⌜ StripeAnswered (mendedOf (described kind block exponent first count ato) (now (old .entry)) (now (new .entry)) (now (parity .entry))) r (now (parity .exit)) ⌝ }
+    ensures { λ r. ⌜ StripeAnswered (correctAnswered (described kind block exponent first count ato) (now (old .entry)) (now (new .entry)) (now (parity .entry))) r (now (parity .exit)) ⌝ }
 {
     let d = described(kind, block, exponent, first, count, ato);
     answer::number(stripe::correct(d, old, new, parity))

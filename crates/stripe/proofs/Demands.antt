@@ -25,7 +25,7 @@ use Rattle.answer.specs.declared.Answer.the-variants as answers
 use Rattle.segment.specs.declared.Description.{Description}
 use Rattle.segment.specs.Segment.{Segment, isSegment, intervalsOf, sizeOf, storedOf, lengthOf}
 use Rattle.segment.proofs.Laws.{stored-intervals}
-use Rattle.stripe.specs.Stripe.{part, xorParts, parityOf, rebuiltOf, correctedOf, Striped, striped, stripedOf, members, madeOf, restoredOf, mendedOf}
+use Rattle.stripe.specs.Stripe.{part, xorParts, parityOf, rebuiltOf, correctedOf, Striped, striped, stripedOf, members, makeAnswered, rebuildAnswered, correctAnswered}
 use Rattle.stripe.specs.Fit.{Making, Rebuilding, Correcting}
 use Rattle.stripe.specs.Error.{errorAt, memberError, beginOf, errorIn, xorOver}
 use Rattle.stripe.specs.Cases.{parityCase}
@@ -124,20 +124,20 @@ answered : (x : Striped) (l : List ℕ) → striped answers.Good l ≡ x → x .
 answered x l e = sym (ap (λ (y : Striped). y .answer) e)
 
 module _ (d : Description) (k : ℕ) (s out : List ℕ) where
-  pub make-good-exactly : (madeOf d k s out .answer ≡ answers.Good) ↔ Making d k s out
+  pub make-good-exactly : (makeAnswered d k s out .answer ≡ answers.Good) ↔ Making d k s out
   make-good-exactly = (make-only d k s out, λ m. ap (λ (y : Striped). y .answer) (make-is d k s out m))
 
-  pub make-leaves : (l : List ℕ) → striped answers.Good l ≡ madeOf d k s out → (l ≡ parityOf (lengthOf d) k s) × (length l ≡ lengthOf d)
+  pub make-leaves : (l : List ℕ) → striped answers.Good l ≡ makeAnswered d k s out → (l ≡ parityOf (lengthOf d) k s) × (length l ≡ lengthOf d)
   make-leaves l e =
       let m = make-only d k s out (answered _ l e) in
       let is = leaves _ l _ (make-is d k s out m) e in
       (is, ap length is ∙ parityOf-length (lengthOf d) k s (omega (arith, m .whole)))
 
 module _ (d : Description) (k lost : ℕ) (s out : List ℕ) where
-  pub rebuild-good-exactly : (restoredOf d k lost s out .answer ≡ answers.Good) ↔ Rebuilding d k lost s out
+  pub rebuild-good-exactly : (rebuildAnswered d k lost s out .answer ≡ answers.Good) ↔ Rebuilding d k lost s out
   rebuild-good-exactly = (rebuild-only d k lost s out, λ m. ap (λ (y : Striped). y .answer) (rebuild-is d k lost s out m))
 
-  pub rebuild-leaves : (l : List ℕ) → striped answers.Good l ≡ restoredOf d k lost s out → (l ≡ rebuiltOf (lengthOf d) k lost s) × (length l ≡ lengthOf d)
+  pub rebuild-leaves : (l : List ℕ) → striped answers.Good l ≡ rebuildAnswered d k lost s out → (l ≡ rebuiltOf (lengthOf d) k lost s) × (length l ≡ lengthOf d)
   rebuild-leaves l e =
       let m = rebuild-only d k lost s out (answered _ l e) in
       let is = leaves _ l _ (rebuild-is d k lost s out m) e in
@@ -150,10 +150,10 @@ corrected-length old new parity long o n p =
     xors-length (xors parity old) new (once ∙ sym n) ∙ once
 
 module _ (d : Description) (old new parity : List ℕ) where
-  pub correct-good-exactly : (mendedOf d old new parity .answer ≡ answers.Good) ↔ Correcting d old new parity
+  pub correct-good-exactly : (correctAnswered d old new parity .answer ≡ answers.Good) ↔ Correcting d old new parity
   correct-good-exactly = (correct-only d old new parity, λ m. ap (λ (y : Striped). y .answer) (correct-is d old new parity m))
 
-  pub correct-leaves : (l : List ℕ) → striped answers.Good l ≡ mendedOf d old new parity → (l ≡ correctedOf old new parity) × (length l ≡ lengthOf d)
+  pub correct-leaves : (l : List ℕ) → striped answers.Good l ≡ correctAnswered d old new parity → (l ≡ correctedOf old new parity) × (length l ≡ lengthOf d)
   correct-leaves l e =
       let m = correct-only d old new parity (answered _ l e) in
       let is = leaves _ l _ (correct-is d old new parity m) e in
@@ -177,7 +177,7 @@ module _ (d : Description) (segment : Segment d) (typed : 1 ≤ d .kind) (j i : 
       omega (arith, begin-in-block, stored, ends (sizeOf d + 8) i (intervalsOf d) l, ends (storedOf d) j (d .count) h)
 
 -- ---- demand 3 for the calls: a good `make` of k members left `parity`
-module _ (d : Description) (k : ℕ) (s out parity : List ℕ) (made : striped answers.Good parity ≡ madeOf d k s out) where
+module _ (d : Description) (k : ℕ) (s out parity : List ℕ) (made : striped answers.Good parity ≡ makeAnswered d k s out) where
   making : Making d k s out
   making = make-only d k s out (answered _ parity made)
 
@@ -202,7 +202,7 @@ module _ (d : Description) (k : ℕ) (s out parity : List ℕ) (made : striped a
   -- lost part, byte for byte
   pub lost-comes-back : (lost : ℕ) (parts room : List ℕ) → lost ≤ k → length parts ≡ (k + 1) * lengthOf d → length room ≡ lengthOf d
       → ((j : ℕ) → j ≤ k → (j ≡ lost → ⊥) → part (lengthOf d) j parts ≡ part (lengthOf d) j (s ++ parity))
-      → restoredOf d k lost parts room ≡ striped answers.Good (part (lengthOf d) lost (s ++ parity))
+      → rebuildAnswered d k lost parts room ≡ striped answers.Good (part (lengthOf d) lost (s ++ parity))
   lost-comes-back lost parts room among whole fits agree =
       let m = making in
       rebuild-is d k lost parts room
@@ -220,7 +220,7 @@ module _ (d : Description) (k : ℕ) (s out parity : List ℕ) (made : striped a
 
   -- where member m's bytes become new ones, `correct` leaves of the parity what `make` makes afresh of the new members
   pub correct-makes-afresh : (m : ℕ) (old new room : List ℕ) → m < k → old ≡ part (lengthOf d) m s → length new ≡ lengthOf d → length room ≡ lengthOf d
-      → mendedOf d old new parity ≡ madeOf d k (put (m * lengthOf d) new s) room
+      → correctAnswered d old new parity ≡ makeAnswered d k (put (m * lengthOf d) new s) room
   correct-makes-afresh m old new room among is size fits =
       let f = making in
       let old-whole : length old ≡ lengthOf d = ap length is ∙ part-length (lengthOf d) m k s among (f .whole) in
@@ -252,20 +252,20 @@ keeps : (d : Description) (shaped : Bool) (old new : List ℕ) (a : Answer) (l :
 unfolding stripedOf
 keeps d shaped old new a l e n = either (not (isSegment d)) (not (eqb (d .kind) 0) && shaped) old new a l e n
 
-pub make-keeps : (d : Description) (k : ℕ) (s out : List ℕ) (a : Answer) (l : List ℕ) → striped a l ≡ madeOf d k s out → (a ≡ answers.Good → ⊥) → l ≡ out
-unfolding madeOf
+pub make-keeps : (d : Description) (k : ℕ) (s out : List ℕ) (a : Answer) (l : List ℕ) → striped a l ≡ makeAnswered d k s out → (a ≡ answers.Good → ⊥) → l ≡ out
+unfolding makeAnswered
 make-keeps d k s out a l e n = keeps d _ out _ a l e n
 
-pub rebuild-keeps : (d : Description) (k lost : ℕ) (s out : List ℕ) (a : Answer) (l : List ℕ) → striped a l ≡ restoredOf d k lost s out → (a ≡ answers.Good → ⊥) → l ≡ out
-unfolding restoredOf
+pub rebuild-keeps : (d : Description) (k lost : ℕ) (s out : List ℕ) (a : Answer) (l : List ℕ) → striped a l ≡ rebuildAnswered d k lost s out → (a ≡ answers.Good → ⊥) → l ≡ out
+unfolding rebuildAnswered
 rebuild-keeps d k lost s out a l e n = keeps d _ out _ a l e n
 
-pub correct-keeps : (d : Description) (old new parity : List ℕ) (a : Answer) (l : List ℕ) → striped a l ≡ mendedOf d old new parity → (a ≡ answers.Good → ⊥) → l ≡ parity
-unfolding mendedOf
+pub correct-keeps : (d : Description) (old new parity : List ℕ) (a : Answer) (l : List ℕ) → striped a l ≡ correctAnswered d old new parity → (a ≡ answers.Good → ⊥) → l ≡ parity
+unfolding correctAnswered
 correct-keeps d old new parity a l e n = keeps d _ parity _ a l e n
 
 -- ---- the starred case
 pub parity-case : (out : List ℕ) → length out ≡ lengthOf (parityCase .description)
-    → madeOf (parityCase .description) (parityCase .count) (parityCase .members) out ≡ striped answers.Good (parityCase .parity)
-unfolding parityCase madeOf stripedOf members isSegment intervalsOf storedOf lengthOf parityOf xorParts xors
+    → makeAnswered (parityCase .description) (parityCase .count) (parityCase .members) out ≡ striped answers.Good (parityCase .parity)
+unfolding parityCase makeAnswered stripedOf members isSegment intervalsOf storedOf lengthOf parityOf xorParts xors
 parity-case out e = rw (eq-eqb (length out) 16 e)

@@ -12,7 +12,7 @@ use Rattle.words.specs.Xor.{xors}
 use Rattle.answer.specs.declared.Answer.the-variants as answers
 use Rattle.segment.specs.declared.Description.{Description}
 use Rattle.segment.specs.Segment.{Segment, isSegment, lengthOf}
-use Rattle.stripe.specs.Stripe.{xorParts, parityOf, rebuiltOf, correctedOf, striped, members, madeOf, restoredOf, mendedOf}
+use Rattle.stripe.specs.Stripe.{xorParts, parityOf, rebuiltOf, correctedOf, striped, members, makeAnswered, rebuildAnswered, correctAnswered}
 use Rattle.stripe.specs.Fit.{Making, Rebuilding, Correcting}
 use Rattle.stripe.specs.Stretch.{joined}
 use Rattle.stripe.proofs.Ladder.{is-one, members-facts, members-true, same, not-one, no-shape, good-is, good-only}
@@ -38,32 +38,32 @@ module _ (d : Description) (k : ℕ) (s out : List ℕ) where
         room = eqb→eq (length out) (lengthOf d) (and-right (eqb (length s) (k * lengthOf d)) _ lengths);
       }
 
-  pub make-is : Making d k s out → madeOf d k s out ≡ striped answers.Good (parityOf (lengthOf d) k s)
-  unfolding madeOf
+  pub make-is : Making d k s out → makeAnswered d k s out ≡ striped answers.Good (parityOf (lengthOf d) k s)
+  unfolding makeAnswered
   make-is m =
       good-is d _ out _ (m .segment) (not-zero (d .kind) (m .typed))
       (and-true (members k) _ (members-true k (m .some) (m .few))
       (and-true (eqb (length s) (k * lengthOf d)) _ (same (length s) (k * lengthOf d) (m .whole)) (same (length out) (lengthOf d) (m .room))))
 
-  pub make-only : madeOf d k s out .answer ≡ answers.Good → Making d k s out
-  unfolding madeOf
+  pub make-only : makeAnswered d k s out .answer ≡ answers.Good → Making d k s out
+  unfolding makeAnswered
   make-only g = let f = good-only d _ out _ g in making (f .0) (f .1 .0) (f .1 .1)
 
   module _ (f : Bool) (e : f ≡ isSegment d) where
-    pub make-bad : not f ≡ true → striped answers.Description out ≡ madeOf d k s out
-    unfolding madeOf
+    pub make-bad : not f ≡ true → striped answers.Description out ≡ makeAnswered d k s out
+    unfolding makeAnswered
     make-bad n = not-one d _ out _ f e n
 
-    pub make-refused : not f ≡ false → (Making d k s out → ⊥) → striped answers.Stripe out ≡ madeOf d k s out
-    unfolding madeOf
+    pub make-refused : not f ≡ false → (Making d k s out → ⊥) → striped answers.Stripe out ≡ makeAnswered d k s out
+    unfolding makeAnswered
     make-refused n h = no-shape d _ out _ f e n (λ typed t. h (making (is-one d f n e) typed t))
 
     module _ (long : ℕ) (l : long ≡ lengthOf d) (n : not f ≡ false) where
-      pub make-unfit : (length s ≡ k * long → length out ≡ long → ⊥) → striped answers.Stripe out ≡ madeOf d k s out
+      pub make-unfit : (length s ≡ k * long → length out ≡ long → ⊥) → striped answers.Stripe out ≡ makeAnswered d k s out
       make-unfit h = make-refused n (λ m. h (m .whole ∙ ap (λ (x : ℕ). k * x) (sym l)) (m .room ∙ sym l))
 
       pub make-good : (new : List ℕ) → (d .kind ≡ 0 → ⊥) → 1 ≤ k → k ≤ 16 → length s ≡ k * long → length out ≡ long → new ≡ joined (length out) k s 0 []
-          → striped answers.Good new ≡ madeOf d k s out
+          → striped answers.Good new ≡ makeAnswered d k s out
       unfolding joined xorParts
       make-good new typed some few whole room made =
           ap (striped answers.Good) (made ∙ ap (λ (x : ℕ). parityOf x k s) (room ∙ l))
@@ -89,33 +89,33 @@ module _ (d : Description) (k lost : ℕ) (s out : List ℕ) where
         room = eqb→eq (length out) (lengthOf d) (and-right (eqb (length s) ((k + 1) * lengthOf d)) _ lengths);
       }
 
-  pub rebuild-is : Rebuilding d k lost s out → restoredOf d k lost s out ≡ striped answers.Good (rebuiltOf (lengthOf d) k lost s)
-  unfolding restoredOf
+  pub rebuild-is : Rebuilding d k lost s out → rebuildAnswered d k lost s out ≡ striped answers.Good (rebuiltOf (lengthOf d) k lost s)
+  unfolding rebuildAnswered
   rebuild-is m =
       good-is d _ out _ (m .segment) (not-zero (d .kind) (m .typed))
       (and-true (members k) _ (members-true k (m .some) (m .few))
       (and-true (leb lost k) _ (le→leb lost k (m .among))
       (and-true (eqb (length s) ((k + 1) * lengthOf d)) _ (same (length s) ((k + 1) * lengthOf d) (m .whole)) (same (length out) (lengthOf d) (m .room)))))
 
-  pub rebuild-only : restoredOf d k lost s out .answer ≡ answers.Good → Rebuilding d k lost s out
-  unfolding restoredOf
+  pub rebuild-only : rebuildAnswered d k lost s out .answer ≡ answers.Good → Rebuilding d k lost s out
+  unfolding rebuildAnswered
   rebuild-only g = let f = good-only d _ out _ g in rebuilding (f .0) (f .1 .0) (f .1 .1)
 
   module _ (f : Bool) (e : f ≡ isSegment d) where
-    pub rebuild-bad : not f ≡ true → striped answers.Description out ≡ restoredOf d k lost s out
-    unfolding restoredOf
+    pub rebuild-bad : not f ≡ true → striped answers.Description out ≡ rebuildAnswered d k lost s out
+    unfolding rebuildAnswered
     rebuild-bad n = not-one d _ out _ f e n
 
-    pub rebuild-refused : not f ≡ false → (Rebuilding d k lost s out → ⊥) → striped answers.Stripe out ≡ restoredOf d k lost s out
-    unfolding restoredOf
+    pub rebuild-refused : not f ≡ false → (Rebuilding d k lost s out → ⊥) → striped answers.Stripe out ≡ rebuildAnswered d k lost s out
+    unfolding rebuildAnswered
     rebuild-refused n h = no-shape d _ out _ f e n (λ typed t. h (rebuilding (is-one d f n e) typed t))
 
     module _ (long : ℕ) (l : long ≡ lengthOf d) (n : not f ≡ false) where
-      pub rebuild-unfit : (length s ≡ (k + 1) * long → length out ≡ long → ⊥) → striped answers.Stripe out ≡ restoredOf d k lost s out
+      pub rebuild-unfit : (length s ≡ (k + 1) * long → length out ≡ long → ⊥) → striped answers.Stripe out ≡ rebuildAnswered d k lost s out
       rebuild-unfit h = rebuild-refused n (λ m. h (m .whole ∙ ap (λ (x : ℕ). (k + 1) * x) (sym l)) (m .room ∙ sym l))
 
       pub rebuild-good : (new : List ℕ) → (d .kind ≡ 0 → ⊥) → 1 ≤ k → k ≤ 16 → lost ≤ k → length s ≡ (k + 1) * long → length out ≡ long
-          → new ≡ rebuiltOf (length out) k lost s → striped answers.Good new ≡ restoredOf d k lost s out
+          → new ≡ rebuiltOf (length out) k lost s → striped answers.Good new ≡ rebuildAnswered d k lost s out
       rebuild-good new typed some few among whole room made =
           ap (striped answers.Good) (made ∙ ap (λ (x : ℕ). rebuiltOf x k lost s) (room ∙ l))
           ∙ sym
@@ -143,32 +143,32 @@ module _ (d : Description) (old new parity : List ℕ) where
         room = eqb→eq (length parity) (lengthOf d) (and-right (eqb (length new) (lengthOf d)) _ lengths);
       }
 
-  pub correct-is : Correcting d old new parity → mendedOf d old new parity ≡ striped answers.Good (correctedOf old new parity)
-  unfolding mendedOf
+  pub correct-is : Correcting d old new parity → correctAnswered d old new parity ≡ striped answers.Good (correctedOf old new parity)
+  unfolding correctAnswered
   correct-is m =
       good-is d _ parity _ (m .segment) (not-zero (d .kind) (m .typed))
       (and-true (eqb (length old) (lengthOf d)) _ (same (length old) (lengthOf d) (m .old-whole))
       (and-true (eqb (length new) (lengthOf d)) _ (same (length new) (lengthOf d) (m .new-whole)) (same (length parity) (lengthOf d) (m .room))))
 
-  pub correct-only : mendedOf d old new parity .answer ≡ answers.Good → Correcting d old new parity
-  unfolding mendedOf
+  pub correct-only : correctAnswered d old new parity .answer ≡ answers.Good → Correcting d old new parity
+  unfolding correctAnswered
   correct-only g = let f = good-only d _ parity _ g in correcting (f .0) (f .1 .0) (f .1 .1)
 
   module _ (f : Bool) (e : f ≡ isSegment d) where
-    pub correct-bad : not f ≡ true → striped answers.Description parity ≡ mendedOf d old new parity
-    unfolding mendedOf
+    pub correct-bad : not f ≡ true → striped answers.Description parity ≡ correctAnswered d old new parity
+    unfolding correctAnswered
     correct-bad n = not-one d _ parity _ f e n
 
-    pub correct-refused : not f ≡ false → (Correcting d old new parity → ⊥) → striped answers.Stripe parity ≡ mendedOf d old new parity
-    unfolding mendedOf
+    pub correct-refused : not f ≡ false → (Correcting d old new parity → ⊥) → striped answers.Stripe parity ≡ correctAnswered d old new parity
+    unfolding correctAnswered
     correct-refused n h = no-shape d _ parity _ f e n (λ typed t. h (correcting (is-one d f n e) typed t))
 
     module _ (long : ℕ) (l : long ≡ lengthOf d) (n : not f ≡ false) where
-      pub correct-unfit : (length old ≡ long → length new ≡ long → length parity ≡ long → ⊥) → striped answers.Stripe parity ≡ mendedOf d old new parity
+      pub correct-unfit : (length old ≡ long → length new ≡ long → length parity ≡ long → ⊥) → striped answers.Stripe parity ≡ correctAnswered d old new parity
       correct-unfit h = correct-refused n (λ m. h (m .old-whole ∙ sym l) (m .new-whole ∙ sym l) (m .room ∙ sym l))
 
       pub correct-good : (left : List ℕ) → (d .kind ≡ 0 → ⊥) → length old ≡ long → length new ≡ long → length parity ≡ long → left ≡ xors (xors parity old) new
-          → striped answers.Good left ≡ mendedOf d old new parity
+          → striped answers.Good left ≡ correctAnswered d old new parity
       unfolding correctedOf
       correct-good left typed old-whole new-whole room made =
           ap (striped answers.Good) made

@@ -50,20 +50,20 @@ unfoldable pub members : ℕ → Bool
 members k = leb 1 k && leb k 16
 
 -- "Making parity and rebuilding write one lent buffer of N × S bytes."
-unfoldable pub madeOf : Description → ℕ → List ℕ → List ℕ → Striped
-madeOf d k s out =
+unfoldable pub makeAnswered : Description → ℕ → List ℕ → List ℕ → Striped
+makeAnswered d k s out =
     stripedOf d (members k && (eqb (length s) (k * lengthOf d) && eqb (length out) (lengthOf d))) out (parityOf (lengthOf d) k s)
 
-unfoldable pub restoredOf : Description → ℕ → ℕ → List ℕ → List ℕ → Striped
-restoredOf d k lost s out =
+unfoldable pub rebuildAnswered : Description → ℕ → ℕ → List ℕ → List ℕ → Striped
+rebuildAnswered d k lost s out =
     stripedOf d
     (members k && (leb lost k && (eqb (length s) ((k + 1) * lengthOf d) && eqb (length out) (lengthOf d))))
     out
     (rebuiltOf (lengthOf d) k lost s)
 
 -- "N × S bytes each"
-unfoldable pub mendedOf : Description → List ℕ → List ℕ → List ℕ → Striped
-mendedOf d old new parity =
+unfoldable pub correctAnswered : Description → List ℕ → List ℕ → List ℕ → Striped
+correctAnswered d old new parity =
     stripedOf d
     (eqb (length old) (lengthOf d) && (eqb (length new) (lengthOf d) && eqb (length parity) (lengthOf d)))
     parity

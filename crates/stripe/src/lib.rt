@@ -4,7 +4,7 @@ ghost use Prim.Native.Nat.{_+_, _*_, _≤_, _<_};
 ghost use lib.ListN.{length, take, drop, replicate};
 ghost use Rattle.words.specs.Xor.{xors};
 ghost use Rattle.stripe.specs.Stretch.{strided, joined};
-ghost use Rattle.stripe.specs.Stripe.{rebuiltOf, striped, madeOf, restoredOf, mendedOf};
+ghost use Rattle.stripe.specs.Stripe.{rebuiltOf, striped, makeAnswered, rebuildAnswered, correctAnswered};
 use answer::Answer;
 use segment::Description;
 
@@ -112,7 +112,7 @@ fn restore(out: &mut [u8], parts: &[u8], count: usize, lost: usize)
 
 // Makes the parity of `k` members in `out`.
 pub fn make(d: Description, k: u64, members: &[u8], out: &mut [u8]) -> Answer
-    ensures { λ r. ⌜ striped r (now (out .exit)) ≡ madeOf d k (now (members .entry)) (now (out .entry)) ⌝ }
+    ensures { λ r. ⌜ striped r (now (out .exit)) ≡ makeAnswered d k (now (members .entry)) (now (out .entry)) ⌝ }
 {
     if !segment::fit(d) {
         return Answer::Description;
@@ -140,7 +140,7 @@ pub fn make(d: Description, k: u64, members: &[u8], out: &mut [u8]) -> Answer
 
 // Rebuilds part `lost` of `k` members and their parity in `out`.
 pub fn rebuild(d: Description, k: u64, lost: u64, parts: &[u8], out: &mut [u8]) -> Answer
-    ensures { λ r. ⌜ striped r (now (out .exit)) ≡ restoredOf d k lost (now (parts .entry)) (now (out .entry)) ⌝ }
+    ensures { λ r. ⌜ striped r (now (out .exit)) ≡ rebuildAnswered d k lost (now (parts .entry)) (now (out .entry)) ⌝ }
 {
     if !segment::fit(d) {
         return Answer::Description;
@@ -171,7 +171,7 @@ pub fn rebuild(d: Description, k: u64, lost: u64, parts: &[u8], out: &mut [u8]) 
 
 // Corrects `parity` where one member's bytes `old` became `new`.
 pub fn correct(d: Description, old: &[u8], new: &[u8], parity: &mut [u8]) -> Answer
-    ensures { λ r. ⌜ striped r (now (parity .exit)) ≡ mendedOf d (now (old .entry)) (now (new .entry)) (now (parity .entry)) ⌝ }
+    ensures { λ r. ⌜ striped r (now (parity .exit)) ≡ correctAnswered d (now (old .entry)) (now (new .entry)) (now (parity .entry)) ⌝ }
 {
     if !segment::fit(d) {
         return Answer::Description;
