@@ -106,9 +106,9 @@ static void print_answer(struct answer a) {
     uint32_t sense = lamptassel_sense(a.number);
     printf("answer %" PRIu64 ", %s", a.number, meaning(a.number));
     if (sense != 0)
-        printf(", sense %02" PRIX32 "/%02" PRIX32 "/%02" PRIX32, LAMPTASSEL_SENSE_KEY(sense),
-               LAMPTASSEL_SENSE_CODE(sense), LAMPTASSEL_SENSE_QUALIFIER(sense));
-    if (a.number >= LAMPTASSEL_GUARD && a.number <= LAMPTASSEL_REFERENCE)
+        printf(", sense %02" PRIX32 "/%02" PRIX32 "/%02" PRIX32, LAMPTASSEL_KEY_OF(sense),
+               LAMPTASSEL_CODE_OF(sense), LAMPTASSEL_QUALIFIER_OF(sense));
+    if (a.number >= LAMPTASSEL_GUARD_CHECK_FAILED && a.number <= LAMPTASSEL_REFERENCE_CHECK_FAILED)
         printf(", address %" PRIu64 ", place %" PRIu64, a.address, a.place);
     putchar('\n');
 }
@@ -410,7 +410,7 @@ static bool read_refused(struct cabinet *c) {
            "   reference tag belongs to another address.\n",
            ADDRESS_A);
     bool refused =
-        step(c, "READ", one_block(0x28, 0, ADDRESS_A), (struct bytes){buffer, LOT}, LAMPTASSEL_REFERENCE);
+        step(c, "READ", one_block(0x28, 0, ADDRESS_A), (struct bytes){buffer, LOT}, LAMPTASSEL_REFERENCE_CHECK_FAILED);
     bool kept = memcmp(buffer, before, LOT) == 0;
     printf("   The host's buffer: %s.\n", kept ? "not a byte of it has changed" : "CHANGED");
     return refused && kept;

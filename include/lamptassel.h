@@ -31,7 +31,7 @@
  * For types 1 to 3 each interval of B / n data bytes is followed by its fields, eight
  * bytes: guard (2), application tag (2), reference tag (4), all big-endian. A stored
  * block has S = B + 8n bytes, for type 0 S = B; a segment has exactly N * S. Numbers that
- * describe no segment are refused with LAMPTASSEL_DESCRIPTION.
+ * describe no segment are refused with LAMPTASSEL_DESCRIPTION_BAD.
  */
 #ifndef LAMPTASSEL_H
 #define LAMPTASSEL_H
@@ -46,20 +46,20 @@ extern "C" {
 /* The answers. 8 to 10 come with the address of the block and the place of the interval. */
 enum lamptassel_answer {
     LAMPTASSEL_GOOD = 0,
-    LAMPTASSEL_DESCRIPTION = 1,    /* description bad */
-    LAMPTASSEL_SEGMENT_LENGTH = 2, /* segment length wrong */
-    LAMPTASSEL_COMMAND_LENGTH = 3, /* command length wrong */
-    LAMPTASSEL_BUFFER_LENGTH = 4,  /* buffer length wrong */
-    LAMPTASSEL_OPERATION = 5,      /* operation invalid */
-    LAMPTASSEL_FIELD = 6,          /* field in command invalid */
-    LAMPTASSEL_ADDRESS = 7,        /* address out of range */
-    LAMPTASSEL_GUARD = 8,          /* guard check failed */
-    LAMPTASSEL_APPLICATION = 9,    /* application check failed */
-    LAMPTASSEL_REFERENCE = 10,     /* reference check failed */
-    LAMPTASSEL_STRIPE = 11,        /* stripe shape bad */
-    LAMPTASSEL_PARAMETER = 12,     /* field in parameter list invalid */
-    LAMPTASSEL_LISTING = 13,       /* listing record bad; only ever printed by lamptassel_list */
-    LAMPTASSEL_SIZE = 14           /* transfer above 4,294,967,295 bytes; no segment is so large */
+    LAMPTASSEL_DESCRIPTION_BAD = 1,
+    LAMPTASSEL_SEGMENT_LENGTH_WRONG = 2,
+    LAMPTASSEL_COMMAND_LENGTH_WRONG = 3,
+    LAMPTASSEL_BUFFER_LENGTH_WRONG = 4,
+    LAMPTASSEL_OPERATION_INVALID = 5,
+    LAMPTASSEL_FIELD_INVALID = 6, /* in the command */
+    LAMPTASSEL_ADDRESS_OUT_OF_RANGE = 7,
+    LAMPTASSEL_GUARD_CHECK_FAILED = 8,
+    LAMPTASSEL_APPLICATION_CHECK_FAILED = 9,
+    LAMPTASSEL_REFERENCE_CHECK_FAILED = 10,
+    LAMPTASSEL_STRIPE_SHAPE_BAD = 11,
+    LAMPTASSEL_PARAMETER_INVALID = 12,   /* a field in the parameter list */
+    LAMPTASSEL_LISTING_RECORD_BAD = 13,  /* only ever printed, by lamptassel_list */
+    LAMPTASSEL_TRANSFER_TOO_LARGE = 14   /* above 4,294,967,295 bytes: no segment is so large */
 };
 
 /* The senses, as lamptassel_sense gives them; the other answers have none. */
@@ -74,9 +74,9 @@ enum lamptassel_sense_of_answer {
 };
 
 /* The parts of a sense. */
-#define LAMPTASSEL_SENSE_KEY(sense) ((sense) >> 16 & 0xFF)
-#define LAMPTASSEL_SENSE_CODE(sense) ((sense) >> 8 & 0xFF)
-#define LAMPTASSEL_SENSE_QUALIFIER(sense) ((sense) & 0xFF)
+#define LAMPTASSEL_KEY_OF(sense) ((sense) >> 16 & 0xFF)
+#define LAMPTASSEL_CODE_OF(sense) ((sense) >> 8 & 0xFF)
+#define LAMPTASSEL_QUALIFIER_OF(sense) ((sense) & 0xFF)
 
 /*
  * Executes one command on a segment: READ, WRITE or VERIFY of 10, 12, 16 or 32 bytes.

@@ -26,9 +26,9 @@ ALWAYS(sizeof(lamptassel_guard(NULL, 0)) == 2);
 ALWAYS(sizeof(lamptassel_guard_by_division(NULL, 0)) == 2);
 ALWAYS(sizeof(lamptassel_sense(0)) == 4);
 ALWAYS(sizeof(lamptassel_list(NULL, 0, NULL, 0)) == 8);
-ALWAYS(LAMPTASSEL_SENSE_KEY(LAMPTASSEL_SENSE_REFERENCE) == 0x0B);
-ALWAYS(LAMPTASSEL_SENSE_CODE(LAMPTASSEL_SENSE_REFERENCE) == 0x10);
-ALWAYS(LAMPTASSEL_SENSE_QUALIFIER(LAMPTASSEL_SENSE_REFERENCE) == 0x03);
+ALWAYS(LAMPTASSEL_KEY_OF(LAMPTASSEL_SENSE_REFERENCE) == 0x0B);
+ALWAYS(LAMPTASSEL_CODE_OF(LAMPTASSEL_SENSE_REFERENCE) == 0x10);
+ALWAYS(LAMPTASSEL_QUALIFIER_OF(LAMPTASSEL_SENSE_REFERENCE) == 0x03);
 
 /* Each function through a pointer of its own type, so that a declaration of another type does not compile. */
 static uint64_t (*const execute)(DESCRIPTION, uint8_t *, size_t, const uint8_t *, size_t, uint8_t *, size_t, uint64_t *,
@@ -52,20 +52,20 @@ static const struct {
     uint32_t sense_constant, sense;
 } ANSWERS[] = {
     {LAMPTASSEL_GOOD, 0, 0, 0},
-    {LAMPTASSEL_DESCRIPTION, 1, 0, 0},
-    {LAMPTASSEL_SEGMENT_LENGTH, 2, 0, 0},
-    {LAMPTASSEL_COMMAND_LENGTH, 3, 0, 0},
-    {LAMPTASSEL_BUFFER_LENGTH, 4, 0, 0},
-    {LAMPTASSEL_OPERATION, 5, LAMPTASSEL_SENSE_OPERATION, 0x052000},
-    {LAMPTASSEL_FIELD, 6, LAMPTASSEL_SENSE_FIELD, 0x052400},
-    {LAMPTASSEL_ADDRESS, 7, LAMPTASSEL_SENSE_ADDRESS, 0x052100},
-    {LAMPTASSEL_GUARD, 8, LAMPTASSEL_SENSE_GUARD, 0x0B1001},
-    {LAMPTASSEL_APPLICATION, 9, LAMPTASSEL_SENSE_APPLICATION, 0x0B1002},
-    {LAMPTASSEL_REFERENCE, 10, LAMPTASSEL_SENSE_REFERENCE, 0x0B1003},
-    {LAMPTASSEL_STRIPE, 11, 0, 0},
-    {LAMPTASSEL_PARAMETER, 12, LAMPTASSEL_SENSE_PARAMETER, 0x052600},
-    {LAMPTASSEL_LISTING, 13, 0, 0},
-    {LAMPTASSEL_SIZE, 14, 0, 0},
+    {LAMPTASSEL_DESCRIPTION_BAD, 1, 0, 0},
+    {LAMPTASSEL_SEGMENT_LENGTH_WRONG, 2, 0, 0},
+    {LAMPTASSEL_COMMAND_LENGTH_WRONG, 3, 0, 0},
+    {LAMPTASSEL_BUFFER_LENGTH_WRONG, 4, 0, 0},
+    {LAMPTASSEL_OPERATION_INVALID, 5, LAMPTASSEL_SENSE_OPERATION, 0x052000},
+    {LAMPTASSEL_FIELD_INVALID, 6, LAMPTASSEL_SENSE_FIELD, 0x052400},
+    {LAMPTASSEL_ADDRESS_OUT_OF_RANGE, 7, LAMPTASSEL_SENSE_ADDRESS, 0x052100},
+    {LAMPTASSEL_GUARD_CHECK_FAILED, 8, LAMPTASSEL_SENSE_GUARD, 0x0B1001},
+    {LAMPTASSEL_APPLICATION_CHECK_FAILED, 9, LAMPTASSEL_SENSE_APPLICATION, 0x0B1002},
+    {LAMPTASSEL_REFERENCE_CHECK_FAILED, 10, LAMPTASSEL_SENSE_REFERENCE, 0x0B1003},
+    {LAMPTASSEL_STRIPE_SHAPE_BAD, 11, 0, 0},
+    {LAMPTASSEL_PARAMETER_INVALID, 12, LAMPTASSEL_SENSE_PARAMETER, 0x052600},
+    {LAMPTASSEL_LISTING_RECORD_BAD, 13, 0, 0},
+    {LAMPTASSEL_TRANSFER_TOO_LARGE, 14, 0, 0},
 };
 
 /* Segment M of document 01: type 1, block 8, exponent 0, first 7, count 3. */
@@ -144,13 +144,13 @@ static void commands(void) {
     CHECK(done.number == LAMPTASSEL_GOOD && done.address == 0 && done.place == 0 && done.segment_changed);
     CHECK(!done.buffer_changed);
     CHECK(on_m(&OF_M, VERIFY_ONE, 10, NULL, 0).number == LAMPTASSEL_GOOD);
-    refuses(on_m(&OF_M, READ_TWO, 11, NULL, 32), LAMPTASSEL_COMMAND_LENGTH, 0, 0);
-    refuses(on_m(&OF_M, READ_TWO, 10, NULL, 31), LAMPTASSEL_BUFFER_LENGTH, 0, 0);
-    refuses(on_m(&OF_M, NO_OPERATION, 10, NULL, 0), LAMPTASSEL_OPERATION, 0, 0);
-    refuses(on_m(&OF_M, READ_CODE_110, 10, NULL, 16), LAMPTASSEL_FIELD, 0, 0);
-    refuses(on_m(&OF_M, READ_PAST, 10, NULL, 8), LAMPTASSEL_ADDRESS, 0, 0);
-    refuses(on_m(&OF_M, WRITE_THIRD, 10, M + 32, 16), LAMPTASSEL_GUARD, 9, 0);
-    refuses(on_m(&OF_M, READ_TWO, 10, NULL, 32), LAMPTASSEL_REFERENCE, 8, 1);
+    refuses(on_m(&OF_M, READ_TWO, 11, NULL, 32), LAMPTASSEL_COMMAND_LENGTH_WRONG, 0, 0);
+    refuses(on_m(&OF_M, READ_TWO, 10, NULL, 31), LAMPTASSEL_BUFFER_LENGTH_WRONG, 0, 0);
+    refuses(on_m(&OF_M, NO_OPERATION, 10, NULL, 0), LAMPTASSEL_OPERATION_INVALID, 0, 0);
+    refuses(on_m(&OF_M, READ_CODE_110, 10, NULL, 16), LAMPTASSEL_FIELD_INVALID, 0, 0);
+    refuses(on_m(&OF_M, READ_PAST, 10, NULL, 8), LAMPTASSEL_ADDRESS_OUT_OF_RANGE, 0, 0);
+    refuses(on_m(&OF_M, WRITE_THIRD, 10, M + 32, 16), LAMPTASSEL_GUARD_CHECK_FAILED, 9, 0);
+    refuses(on_m(&OF_M, READ_TWO, 10, NULL, 32), LAMPTASSEL_REFERENCE_CHECK_FAILED, 8, 1);
 }
 
 /* READ (32), code 001, of M's first two blocks as type 2 with ATO 1: first tag 7, application tag 0001h, mask FFFFh. */
@@ -158,15 +158,15 @@ static void long_command(void) {
     static const struct description TYPE_2 = {2, 8, 0, 7, 3, 1};
     static const uint8_t READ_32[32] = {0x7F, 0, 0, 0, 0, 0, 0, 0x18, 0, 9, 0x20, 0, 0, 0,    0,    0,
                                         0,    0, 0, 7, 0, 0, 0, 7,    0, 1, 0xFF, 0xFF, 0, 0, 0, 2};
-    refuses(on_m(&TYPE_2, READ_32, 32, NULL, 32), LAMPTASSEL_APPLICATION, 7, 0);
-    refuses(on_m(&OF_M, READ_32, 32, NULL, 32), LAMPTASSEL_OPERATION, 0, 0);
+    refuses(on_m(&TYPE_2, READ_32, 32, NULL, 32), LAMPTASSEL_APPLICATION_CHECK_FAILED, 7, 0);
+    refuses(on_m(&OF_M, READ_32, 32, NULL, 32), LAMPTASSEL_OPERATION_INVALID, 0, 0);
 }
 
 /* The address that comes back is not cut either. */
 static void wide_address(void) {
     static const struct description FAR = {1, 8, 0, (UINT64_C(1) << 40) + 7, 3, 0};
     static const uint8_t READ_16[16] = {0x88, 0x20, 0, 0, 1, 0, 0, 0, 0, 7, 0, 0, 0, 2, 0, 0};
-    refuses(on_m(&FAR, READ_16, 16, NULL, 32), LAMPTASSEL_REFERENCE, (UINT64_C(1) << 40) + 8, 1);
+    refuses(on_m(&FAR, READ_16, 16, NULL, 32), LAMPTASSEL_REFERENCE_CHECK_FAILED, (UINT64_C(1) << 40) + 8, 1);
 }
 
 static void descriptions(void) {
@@ -177,11 +177,11 @@ static void descriptions(void) {
     memcpy(before, out, sizeof out);
     for (size_t i = 0; i < ENTRIES(TOO_WIDE); i++) {
         const struct description *d = &TOO_WIDE[i];
-        refuses(on_m(d, READ_NOTHING, 10, NULL, 0), LAMPTASSEL_DESCRIPTION, 0, 0);
-        CHECK(fill(TOLD(d), out, sizeof out) == LAMPTASSEL_DESCRIPTION);
-        CHECK(parity(TOLD(d), 2, members, sizeof members, out, sizeof out) == LAMPTASSEL_DESCRIPTION);
-        CHECK(rebuild(TOLD(d), 2, 0, parts, sizeof parts, out, sizeof out) == LAMPTASSEL_DESCRIPTION);
-        CHECK(correct(TOLD(d), members, sizeof M, parts, sizeof M, out, sizeof out) == LAMPTASSEL_DESCRIPTION);
+        refuses(on_m(d, READ_NOTHING, 10, NULL, 0), LAMPTASSEL_DESCRIPTION_BAD, 0, 0);
+        CHECK(fill(TOLD(d), out, sizeof out) == LAMPTASSEL_DESCRIPTION_BAD);
+        CHECK(parity(TOLD(d), 2, members, sizeof members, out, sizeof out) == LAMPTASSEL_DESCRIPTION_BAD);
+        CHECK(rebuild(TOLD(d), 2, 0, parts, sizeof parts, out, sizeof out) == LAMPTASSEL_DESCRIPTION_BAD);
+        CHECK(correct(TOLD(d), members, sizeof M, parts, sizeof M, out, sizeof out) == LAMPTASSEL_DESCRIPTION_BAD);
     }
     CHECK(memcmp(out, before, sizeof out) == 0);
 }
@@ -189,13 +189,13 @@ static void descriptions(void) {
 static void formats(void) {
     uint64_t kind = UINT64_MAX;
     CHECK(format(3, 1, 3, 1, &kind) == LAMPTASSEL_GOOD && kind == 3);
-    CHECK(format(1, 1, 3, 1, &kind) == LAMPTASSEL_PARAMETER && kind == 0);
+    CHECK(format(1, 1, 3, 1, &kind) == LAMPTASSEL_PARAMETER_INVALID && kind == 0);
     CHECK(format(0, 1, 2, 0, &kind) == LAMPTASSEL_GOOD && kind == 1);
-    CHECK(format(0, 1, 1, 0, &kind) == LAMPTASSEL_FIELD && kind == 0);
+    CHECK(format(0, 1, 1, 0, &kind) == LAMPTASSEL_FIELD_INVALID && kind == 0);
     for (int i = 0; i < 4; i++) {
         kind = UINT64_MAX;
         CHECK(format(0 + (i == 0) * BEYOND_32_BITS, 1 + (i == 1) * BEYOND_32_BITS, 2 + (i == 2) * BEYOND_32_BITS,
-                     0 + (i == 3) * BEYOND_32_BITS, &kind) == LAMPTASSEL_FIELD);
+                     0 + (i == 3) * BEYOND_32_BITS, &kind) == LAMPTASSEL_FIELD_INVALID);
         CHECK(kind == 0);
     }
 }
@@ -204,7 +204,7 @@ static void fillings(void) {
     static const uint8_t FRESH[16] = {0, 0, 0, 0, 0, 0, 0, 0, 0xFF, 0xFF, 0xFF, 0xFF, 0xFF, 0xFF, 0xFF, 0xFF};
     uint8_t segment[17];
     memset(segment, 0x55, sizeof segment);
-    CHECK(fill(TOLD(&OF_ONE_BLOCK), segment, 17) == LAMPTASSEL_SEGMENT_LENGTH && segment[0] == 0x55);
+    CHECK(fill(TOLD(&OF_ONE_BLOCK), segment, 17) == LAMPTASSEL_SEGMENT_LENGTH_WRONG && segment[0] == 0x55);
     CHECK(fill(TOLD(&OF_ONE_BLOCK), segment, 16) == LAMPTASSEL_GOOD);
     CHECK(memcmp(segment, FRESH, 16) == 0 && segment[16] == 0x55);
 }
@@ -215,9 +215,9 @@ static void stripes(void) {
     uint8_t parts[48], out[16];
     memcpy(parts, M, 32);
     memset(out, 0x55, 16);
-    CHECK(parity(TOLD(&OF_ONE_BLOCK), BEYOND_32_BITS + 2, M, 32, out, 16) == LAMPTASSEL_STRIPE);
-    CHECK(rebuild(TOLD(&OF_ONE_BLOCK), BEYOND_32_BITS + 2, 0, parts, 48, out, 16) == LAMPTASSEL_STRIPE);
-    CHECK(rebuild(TOLD(&OF_ONE_BLOCK), 2, BEYOND_32_BITS, parts, 48, out, 16) == LAMPTASSEL_STRIPE);
+    CHECK(parity(TOLD(&OF_ONE_BLOCK), BEYOND_32_BITS + 2, M, 32, out, 16) == LAMPTASSEL_STRIPE_SHAPE_BAD);
+    CHECK(rebuild(TOLD(&OF_ONE_BLOCK), BEYOND_32_BITS + 2, 0, parts, 48, out, 16) == LAMPTASSEL_STRIPE_SHAPE_BAD);
+    CHECK(rebuild(TOLD(&OF_ONE_BLOCK), 2, BEYOND_32_BITS, parts, 48, out, 16) == LAMPTASSEL_STRIPE_SHAPE_BAD);
     CHECK(out[0] == 0x55 && memcmp(out, out + 1, 15) == 0);
     CHECK(parity(TOLD(&OF_ONE_BLOCK), 2, M, 32, out, 16) == LAMPTASSEL_GOOD && memcmp(out, PARITY, 16) == 0);
     memcpy(parts + 32, PARITY, 16);
@@ -238,9 +238,9 @@ static void guards_of_document(void) {
     }
     CHECK(guard(data, 32) == 0x0224);
     CHECK(guard_by_division(data + 32, 32) == 0xA0B7);
-    CHECK(guards(data, 64, 32, out, 3) == LAMPTASSEL_BUFFER_LENGTH);
-    CHECK(guards(data, 64, 0, out, 4) == LAMPTASSEL_BUFFER_LENGTH);
-    CHECK(guards(data, 64, BEYOND_32_BITS + 32, out, 4) == LAMPTASSEL_BUFFER_LENGTH);
+    CHECK(guards(data, 64, 32, out, 3) == LAMPTASSEL_BUFFER_LENGTH_WRONG);
+    CHECK(guards(data, 64, 0, out, 4) == LAMPTASSEL_BUFFER_LENGTH_WRONG);
+    CHECK(guards(data, 64, BEYOND_32_BITS + 32, out, 4) == LAMPTASSEL_BUFFER_LENGTH_WRONG);
     CHECK(out[0] == 0x55 && memcmp(out, out + 1, 3) == 0);
     CHECK(guards(data, 64, 32, out, 4) == LAMPTASSEL_GOOD && memcmp(out, BOTH, 4) == 0);
 }
@@ -263,24 +263,24 @@ static void empty_buffers(void) {
     uint8_t bytes[48];
     uint64_t address = 1, place = 1;
     memcpy(bytes, M, sizeof bytes);
-    CHECK(execute(TOLD(&OF_M), NULL, 0, READ_NOTHING, 10, NULL, 0, &address, &place) == LAMPTASSEL_SEGMENT_LENGTH);
-    CHECK(execute(TOLD(&OF_M), bytes, 48, NULL, 0, NULL, 0, &address, &place) == LAMPTASSEL_COMMAND_LENGTH);
-    CHECK(execute(TOLD(&OF_M), bytes, 48, READ_TWO, 10, NULL, 0, &address, &place) == LAMPTASSEL_BUFFER_LENGTH);
+    CHECK(execute(TOLD(&OF_M), NULL, 0, READ_NOTHING, 10, NULL, 0, &address, &place) == LAMPTASSEL_SEGMENT_LENGTH_WRONG);
+    CHECK(execute(TOLD(&OF_M), bytes, 48, NULL, 0, NULL, 0, &address, &place) == LAMPTASSEL_COMMAND_LENGTH_WRONG);
+    CHECK(execute(TOLD(&OF_M), bytes, 48, READ_TWO, 10, NULL, 0, &address, &place) == LAMPTASSEL_BUFFER_LENGTH_WRONG);
     CHECK(execute(TOLD(&OF_M), bytes, 48, READ_NOTHING, 10, NULL, 0, &address, &place) == LAMPTASSEL_GOOD);
     CHECK(execute(TOLD(&OF_M), bytes, 48, VERIFY_ONE, 10, NULL, 0, &address, &place) == LAMPTASSEL_GOOD);
-    CHECK(fill(TOLD(&OF_M), NULL, 0) == LAMPTASSEL_SEGMENT_LENGTH);
-    CHECK(parity(TOLD(&OF_M), 1, NULL, 0, bytes, 48) == LAMPTASSEL_STRIPE);
-    CHECK(parity(TOLD(&OF_M), 1, M, 48, NULL, 0) == LAMPTASSEL_STRIPE);
-    CHECK(rebuild(TOLD(&OF_ONE_BLOCK), 1, 0, NULL, 0, bytes, 16) == LAMPTASSEL_STRIPE);
-    CHECK(rebuild(TOLD(&OF_ONE_BLOCK), 1, 0, M, 32, NULL, 0) == LAMPTASSEL_STRIPE);
-    CHECK(correct(TOLD(&OF_M), NULL, 0, M, 48, bytes, 48) == LAMPTASSEL_STRIPE);
-    CHECK(correct(TOLD(&OF_M), M, 48, NULL, 0, bytes, 48) == LAMPTASSEL_STRIPE);
-    CHECK(correct(TOLD(&OF_M), M, 48, M, 48, NULL, 0) == LAMPTASSEL_STRIPE);
+    CHECK(fill(TOLD(&OF_M), NULL, 0) == LAMPTASSEL_SEGMENT_LENGTH_WRONG);
+    CHECK(parity(TOLD(&OF_M), 1, NULL, 0, bytes, 48) == LAMPTASSEL_STRIPE_SHAPE_BAD);
+    CHECK(parity(TOLD(&OF_M), 1, M, 48, NULL, 0) == LAMPTASSEL_STRIPE_SHAPE_BAD);
+    CHECK(rebuild(TOLD(&OF_ONE_BLOCK), 1, 0, NULL, 0, bytes, 16) == LAMPTASSEL_STRIPE_SHAPE_BAD);
+    CHECK(rebuild(TOLD(&OF_ONE_BLOCK), 1, 0, M, 32, NULL, 0) == LAMPTASSEL_STRIPE_SHAPE_BAD);
+    CHECK(correct(TOLD(&OF_M), NULL, 0, M, 48, bytes, 48) == LAMPTASSEL_STRIPE_SHAPE_BAD);
+    CHECK(correct(TOLD(&OF_M), M, 48, NULL, 0, bytes, 48) == LAMPTASSEL_STRIPE_SHAPE_BAD);
+    CHECK(correct(TOLD(&OF_M), M, 48, M, 48, NULL, 0) == LAMPTASSEL_STRIPE_SHAPE_BAD);
     CHECK(guard(NULL, 0) == 0);
     CHECK(guard_by_division(NULL, 0) == 0);
     CHECK(guards(NULL, 0, 8, NULL, 0) == LAMPTASSEL_GOOD);
-    CHECK(guards(NULL, 0, 8, bytes, 2) == LAMPTASSEL_BUFFER_LENGTH);
-    CHECK(guards(M, 8, 8, NULL, 0) == LAMPTASSEL_BUFFER_LENGTH);
+    CHECK(guards(NULL, 0, 8, bytes, 2) == LAMPTASSEL_BUFFER_LENGTH_WRONG);
+    CHECK(guards(M, 8, 8, NULL, 0) == LAMPTASSEL_BUFFER_LENGTH_WRONG);
     CHECK(memcmp(bytes, M, sizeof bytes) == 0);
     CHECK(list(NULL, 0, NULL, 0) == 11);
     CHECK(list(NULL, 0, bytes, 48) == 11 && memcmp(bytes, "refused 13\n", 11) == 0);
