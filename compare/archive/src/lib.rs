@@ -23,7 +23,7 @@ pub mod c {
             address: *mut u64,
             place: *mut u64,
         ) -> u64;
-        pub fn lamptassel_format(
+        pub fn lamptassel_format_choice(
             spt: u64,
             protect: u64,
             fmtpinfo: u64,
@@ -136,7 +136,7 @@ pub fn execute(d: &Description, segment: &mut [u8], command: &[u8], buffer: &mut
 #[inline(always)]
 pub fn format(spt: u64, protect: u64, fmtpinfo: u64, usage: u64) -> (u64, u64) {
     let mut kind = 0;
-    let answer = unsafe { c::lamptassel_format(spt, protect, fmtpinfo, usage, &mut kind) };
+    let answer = unsafe { c::lamptassel_format_choice(spt, protect, fmtpinfo, usage, &mut kind) };
     (answer, kind)
 }
 

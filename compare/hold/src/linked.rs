@@ -39,7 +39,7 @@ impl Library for Archive {
                 )
             },
             (Function::Format, &[spt, protect, fmtpinfo, usage], [], &[kind]) => unsafe {
-                c::lamptassel_format(spt, protect, fmtpinfo, usage, kind)
+                c::lamptassel_format_choice(spt, protect, fmtpinfo, usage, kind)
             },
             (Function::Fill, &[p, b, e, w, n, ato], &[segment], []) => unsafe {
                 c::lamptassel_fill(p, b, e, w, n, ato, segment.pointer, segment.length)

@@ -3,17 +3,17 @@ ghost use mathlib.Core.Path.{_≡_};
 ghost use Prim.Native.Nat.{_≤_};
 ghost use Rattle.segment.specs.Segment.{Segment};
 ghost use Rattle.admission.specs.Admission.{typeRules, codeRule, checkRule, rangeRule, movedOf, sizeRule, bufferOf, bufferRule, refusal, admitCommand, admitted};
-// What admission decides: the refusal, or the command that goes on.
-pub enum Admitted {
-    Refused(Answer),
-    Go(Command),
-}
-
 use answer::Answer;
 use command::Command;
 use command::Decoded;
 use command::Operation;
 use segment::Description;
+
+// What admission decides: the refusal, or the command that goes on.
+pub enum Admitted {
+    Refused(Answer),
+    Go(Command),
+}
 
 fn type_rules(d: Description, c: Command) -> Answer
     ensures { λ r. ⌜ r ≡ typeRules d c ⌝ }

@@ -1,4 +1,4 @@
-// Moving bytes block by block. Only here does a lent byte change.
+// Moving a transfer's bytes block by block.
 ghost use mathlib.Core.Path.{_≡_};
 ghost use Prim.Native.Nat.{_+_, _*_, _≤_};
 ghost use lib.ListN.{length};

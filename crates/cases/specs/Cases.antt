@@ -1,15 +1,13 @@
 -- "Both sides of the line": the starred cases of document 01, in one table.
-use Prim.Native.Nat.{ℕ}
+use Prim.Native.Nat.{ℕ, zero, suc, _-_}
 use mathlib.Core.List.{List, [], _∷_, _++_, map}
 use lib.ListN.{replicate}
 use Rattle.words.specs.BigEndian.{bytes}
 use Rattle.guard.specs.Guard.{guard}
-use Rattle.guard.specs.Vectors.{Vector, vectors}
 use Rattle.answer.specs.Answer.{numberOf, addressOf, placeOf}
 use Rattle.segment.specs.declared.Description.{Description}
 use Rattle.transfer.specs.Transfer.{Outcome, executed}
 use Rattle.stripe.specs.Stripe.{Striped, makeAnswered}
-use Rattle.stripe.specs.Cases.{ParityCase, parityCase}
 
 -- what comes of a case, in the paper's numbers, with every lent byte afterwards
 pub data Result : Type 0 where
@@ -19,6 +17,11 @@ pub data Result : Type 0 where
   -- number, then the buffer
   made : ℕ → List ℕ → Result
 
+-- data and its guard
+pub record Vector : Type 0 where
+  pub bytes : List ℕ
+  pub guarded : ℕ
+
 -- a command on a segment, with the buffer lent to it, and what is to come of it
 pub record CommandCase : Type 0 where
   pub description : Description
@@ -26,6 +29,13 @@ pub record CommandCase : Type 0 where
   pub command : List ℕ
   pub buffer : List ℕ
   pub outcome : Result
+
+-- members, how many, and their parity
+pub record ParityCase : Type 0 where
+  pub description : Description
+  pub count : ℕ
+  pub members : List ℕ
+  pub parity : List ℕ
 
 pub data Case : Type 0 where
   guardOf : Vector → Case
@@ -49,6 +59,25 @@ abbrev pub expected : Case → Result
 expected (guardOf v) = guarded (v .guarded)
 expected (execute c) = c .outcome
 expected (parity c) = made 0 (c .parity)
+
+-- n bytes, each one more, or one less, than the one before
+unfoldable pub up : ℕ → ℕ → List ℕ
+up zero b = []
+up (suc n) b = b ∷ up n (suc b)
+
+unfoldable pub down : ℕ → ℕ → List ℕ
+down zero b = []
+down (suc n) b = b ∷ down n (b - 1)
+
+-- "Guards from 002"
+unfoldable pub vectors : List Vector
+vectors =
+    record { bytes = replicate 32 0x00; guarded = 0x0000 }
+    ∷ record { bytes = replicate 32 0xFF; guarded = 0xA293 }
+    ∷ record { bytes = up 32 0x00; guarded = 0x0224 }
+    ∷ record { bytes = replicate 2 0xFF ++ replicate 30 0x00; guarded = 0x21B8 }
+    ∷ record { bytes = down 32 0xFF; guarded = 0xA0B7 }
+    ∷ []
 
 -- "call this segment M; ATO is 0": its description and its blocks
 abbrev describedM : Description
@@ -93,6 +122,16 @@ onSegments =
       outcome = answered 0 0 0 (bytes 24 0x00000000_0000_0000_FFFFFFFF_00000000_0000_0000_00000000) (replicate 8 0);
     })
     ∷ []
+
+-- "Members M's first block and 0000000000000002 9CD9 0000 00000007: parity 0000000000000003 176E 0000 00000000."
+unfoldable pub parityCase : ParityCase
+parityCase =
+    record {
+      description = record { kind = 1; block = 8; exponent = 0; first = 7; count = 1; ato = 0 };
+      count = 2;
+      members = first ++ bytes 16 0x0000000000000002_9CD9_0000_00000007;
+      parity = bytes 16 0x0000000000000003_176E_0000_00000000;
+    }
 
 unfoldable pub cases : List Case
 cases = map guardOf vectors ++ onSegments ++ (parity parityCase ∷ [])

@@ -6,7 +6,7 @@ use mathlib.Core.Bool.{Bool}
 use mathlib.Core.List.{List, [], _∷_, _++_}
 use Prim.Native.Nat.{ℕ, zero, suc, _<_}
 use native.Mathlib.Omega.{arith}
-use lib.ListN.{length, getD}
+use lib.ListN.{length, getD, replicate}
 use Rattle.words.specs.BigEndian.{numberAt, bytes}
 use Rattle.words.specs.Parts.{put}
 use Rattle.words.specs.Xor.{xors}
@@ -71,6 +71,9 @@ copy s = defined _
 
 pub xor-into : (d s : List ℕ) → Determined (λ (left : List ℕ). left ≡ xors d s)
 xor-into d s = defined _
+
+pub fill-with : (d : List ℕ) (b : ℕ) → Determined (λ (left : List ℕ). left ≡ replicate (length d) b)
+fill-with d b = defined _
 
 -- ---- guard
 pub guard-by-division : (s : List ℕ) → Determined (λ (r : ℕ). r ≡ guard s)

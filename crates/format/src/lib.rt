@@ -103,24 +103,13 @@ pub fn choose(spt: u64, protect: u64, fmtpinfo: u64, usage: u64) -> Choice
     refused(Answer::Field)
 }
 
-// Makes every byte of `d` the byte `b`.
-fn fill_with(d: &mut [u8], b: u8)
-    ensures { λ _. ⌜ now (d .exit) ≡ replicate (length (now (d .entry))) b ⌝ }
-{
-    let mut i: usize = 0;
-    while i < d.len() {
-        d[i] = b;
-        i += 1;
-    }
-}
-
 // Makes `d` a fresh interval of `size` data bytes: data zero, every field byte FFh.
 fn fill_interval(d: &mut [u8], size: usize)
     requires { ⌜ size + 8 ≡ length (now d) ⌝ }
     ensures { λ _. ⌜ now (d .exit) ≡ freshInterval size ⌝ }
 {
-    fill_with(d, 0);
-    fill_with(&mut d[size..], 0xFF);
+    words::fill_with(d, 0);
+    words::fill_with(&mut d[size..], 0xFF);
 }
 
 // Makes `d` `count` fresh intervals.
@@ -149,7 +138,7 @@ pub fn fill(d: Description, segment: &mut [u8]) -> Answer
         return Answer::Segment;
     }
     if d.kind == 0 {
-        fill_with(segment, 0);
+        words::fill_with(segment, 0);
         return Answer::Good;
     }
     let size = segment::size(d);

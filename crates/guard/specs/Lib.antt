@@ -2,4 +2,3 @@ pub mod Guard
 pub mod Remainder
 pub mod Table
 pub mod Guards
-pub mod Vectors

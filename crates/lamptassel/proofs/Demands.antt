@@ -48,9 +48,9 @@ execute-determined o r r′ a a′ p p′ s s′ b b′ x y =
       buffer = same (x .buffer) (y .buffer);
     }
 
--- `lamptassel_format`
-pub format-determined : (c : Choice) (r r′ t t′ : ℕ) → Chosen c r t → Chosen c r′ t′ → (r ≡ r′) × (t ≡ t′)
-format-determined c r r′ t t′ x y = (same (x .answer) (y .answer), same (x .kind) (y .kind))
+-- `lamptassel_format_choice`
+pub format-choice-determined : (c : Choice) (r r′ t t′ : ℕ) → Chosen c r t → Chosen c r′ t′ → (r ≡ r′) × (t ≡ t′)
+format-choice-determined c r r′ t t′ x y = (same (x .answer) (y .answer), same (x .kind) (y .kind))
 
 -- `lamptassel_fill`
 pub fill-determined : (f : Filled) (r r′ : ℕ) (s s′ : List ℕ) → FillAnswered f r s → FillAnswered f r′ s′ → (r ≡ r′) × (s ≡ s′)

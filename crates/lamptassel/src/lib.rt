@@ -51,7 +51,7 @@ pub extern "C" fn lamptassel_execute(
 
 // The format choice: the type is put into `kind`.
 #[no_mangle]
-pub extern "C" fn lamptassel_format(
+pub extern "C" fn lamptassel_format_choice(
     spt: u64,
     protect: u64,
     fmtpinfo: u64,

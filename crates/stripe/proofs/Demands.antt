@@ -28,7 +28,6 @@ use Rattle.segment.proofs.Laws.{stored-intervals}
 use Rattle.stripe.specs.Stripe.{part, xorParts, parityOf, rebuiltOf, correctedOf, Striped, striped, stripedOf, members, makeAnswered, rebuildAnswered, correctAnswered}
 use Rattle.stripe.specs.Fit.{Making, Rebuilding, Correcting}
 use Rattle.stripe.specs.Error.{errorAt, memberError, beginOf, errorIn, xorOver}
-use Rattle.stripe.specs.Cases.{parityCase}
 use Rattle.stripe.proofs.Sums.{by-side, member-part, parity-part, any-part, all-but-one, others-only, parityOf-length, rebuiltOf-length, ends, part-length, put-part, put-other}
 use Rattle.stripe.proofs.Ladder.{same}
 use Rattle.stripe.proofs.Fits.{not-zero, make-is, make-only, rebuild-is, rebuild-only, correct-is, correct-only}
@@ -263,9 +262,3 @@ rebuild-keeps d k lost s out a l e n = keeps d _ out _ a l e n
 pub correct-keeps : (d : Description) (old new parity : List ℕ) (a : Answer) (l : List ℕ) → striped a l ≡ correctAnswered d old new parity → (a ≡ answers.Good → ⊥) → l ≡ parity
 unfolding correctAnswered
 correct-keeps d old new parity a l e n = keeps d _ parity _ a l e n
-
--- ---- the starred case
-pub parity-case : (out : List ℕ) → length out ≡ lengthOf (parityCase .description)
-    → makeAnswered (parityCase .description) (parityCase .count) (parityCase .members) out ≡ striped answers.Good (parityCase .parity)
-unfolding parityCase makeAnswered stripedOf members isSegment intervalsOf storedOf lengthOf parityOf xorParts xors
-parity-case out e = rw (eq-eqb (length out) 16 e)

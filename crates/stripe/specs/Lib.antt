@@ -2,4 +2,3 @@ pub mod Stripe
 pub mod Fit
 pub mod Stretch
 pub mod Error
-pub mod Cases

@@ -1,23 +1,12 @@
 // Parity of up to sixteen members, rebuilding a lost part, correcting parity.
 ghost use mathlib.Core.Path.{_≡_};
 ghost use Prim.Native.Nat.{_+_, _*_, _≤_, _<_};
-ghost use lib.ListN.{length, take, drop, replicate};
+ghost use lib.ListN.{length, take, drop};
 ghost use Rattle.words.specs.Xor.{xors};
 ghost use Rattle.stripe.specs.Stretch.{strided, joined};
 ghost use Rattle.stripe.specs.Stripe.{rebuiltOf, striped, makeAnswered, rebuildAnswered, correctAnswered};
 use answer::Answer;
 use segment::Description;
-
-// Zeroes `d`.
-fn clear(d: &mut [u8])
-    ensures { λ _. ⌜ now (d .exit) ≡ replicate (length (now (d .entry))) 0 ⌝ }
-{
-    let mut i: usize = 0;
-    while i < d.len() {
-        d[i] = 0;
-        i += 1;
-    }
-}
 
 // Makes `d` the exclusive or of itself, `a` and `b`, which are as long.
 fn xor_two(d: &mut [u8], a: &[u8], b: &[u8])
@@ -69,7 +58,7 @@ fn join_stretch(
     requires { ⌜ (at + length (now piece) ≤ long) × ((m * long ≡ length (now before)) × (n * long ≡ length (now after))) ⌝ }
     ensures { λ _. ⌜ now (piece .exit) ≡ take (length (now (piece .entry))) (drop at (joined long m (now (before .entry)) n (now (after .entry)))) ⌝ }
 {
-    clear(piece);
+    words::fill_with(piece, 0);
     xor_stretch(piece, at, before, long, m);
     xor_stretch(piece, at, after, long, n);
 }

@@ -1,7 +1,7 @@
-// Numbers in bytes, exclusive or and copying: what knows nothing of disks.
+// Numbers in bytes, exclusive or, copying and filling: what knows nothing of disks.
 ghost use mathlib.Core.Path.{_≡_};
 ghost use Prim.Native.Nat.{_+_, _≤_};
-ghost use lib.ListN.{length};
+ghost use lib.ListN.{length, replicate};
 ghost use Rattle.words.specs.BigEndian.{number, numberAt, bytes};
 ghost use Rattle.words.specs.Parts.{put};
 ghost use Rattle.words.specs.Xor.{xors};
@@ -112,6 +112,17 @@ pub fn xor_into(d: &mut [u8], s: &[u8])
     let mut i: usize = 0;
     while i < s.len() {
         d[i] = d[i] ^ s[i];
+        i += 1;
+    }
+}
+
+// Makes every byte of `d` the byte `b`.
+pub fn fill_with(d: &mut [u8], b: u8)
+    ensures { λ _. ⌜ now (d .exit) ≡ replicate (length (now (d .entry))) b ⌝ }
+{
+    let mut i: usize = 0;
+    while i < d.len() {
+        d[i] = b;
         i += 1;
     }
 }

@@ -5,8 +5,8 @@ use borrow.Author.Needs.{needs}
 use Rattle.stripe.proofs.join_stretch.Statement.{statement}
 use Rattle.stripe.proofs.join_stretch.Tie as tie
 
-clear-requires : tie.Need-clear-requires
-clear-requires c κs = search needs
+fill-with-requires : tie.Need-fill-with-requires
+fill-with-requires c κs = search needs
 
 xor-stretch-requires : tie.Need-xor-stretch-requires
 xor-stretch-requires c κs = search needs
@@ -21,9 +21,9 @@ returns : tie.Need-returns
 returns c =
     let half = c .before .before .before .before .before in
     let cleared = half .before .before .before .before in
-    stretch-of-joined _ _ _ _ _ _ _ _ _ _ (cleared .before .before .before .before .before .before .pre .0) (search needs) (search needs) (cleared .before .clear .ensures) (half .before .xor-stretch .ensures) (c .before .before .xor-stretch2 .ensures)
+    stretch-of-joined _ _ _ _ _ _ _ _ _ _ (cleared .before .before .before .before .before .before .pre .0) (search needs) (search needs) (cleared .before .fill-with .ensures) (half .before .xor-stretch .ensures) (c .before .before .xor-stretch2 .ensures)
 
 pub join-stretch-spec : {M : Type 1} → statement M
 join-stretch-spec =
     tie.close
-    (tie.spec clear-requires xor-stretch-requires xor-stretch-requires-2 same-length returns)
+    (tie.spec fill-with-requires xor-stretch-requires xor-stretch-requires-2 same-length returns)

@@ -1,9 +1,9 @@
--- `lamptassel::lamptassel_format`: the number and the type of `format::choose`'s choice.
+-- `lamptassel::lamptassel_format_choice`: the number and the type of `format::choose`'s choice.
 -- Assumes nothing.
 use mathlib.Core.Path.{refl}
 use borrow.Author.Needs.{needs}
-use Rattle.lamptassel.proofs.lamptassel_format.Statement.{statement}
-use Rattle.lamptassel.proofs.lamptassel_format.Tie as tie
+use Rattle.lamptassel.proofs.lamptassel_format_choice.Statement.{statement}
+use Rattle.lamptassel.proofs.lamptassel_format_choice.Tie as tie
 use Rattle.lamptassel.proofs.Laws.{chosen-told}
 
 choose-requires : tie.Need-choose-requires
@@ -15,5 +15,5 @@ number-requires c κs = search needs
 returns : tie.Need-returns
 returns c = chosen-told _ _ _ _ (c .before .choose .ensures) (c .number .ensures) refl
 
-pub lamptassel-format-spec : {M : Type 1} → statement M
-lamptassel-format-spec = tie.close (tie.spec choose-requires number-requires returns)
+pub lamptassel-format-choice-spec : {M : Type 1} → statement M
+lamptassel-format-choice-spec = tie.close (tie.spec choose-requires number-requires returns)

@@ -1,4 +1,4 @@
--- `format::fill_with`: what is filled, and what is left of the old bytes.
+-- `words::fill_with`: what is filled, and what is left of the old bytes.
 -- Assumes nothing.
 use mathlib.Core.Path.{_≡_, refl, sym, ap, _∙_}
 use mathlib.Core.List.{List, _++_, append-nil}
@@ -7,8 +7,8 @@ use native.Mathlib.Omega.{arith}
 use borrow.Author.Fill.{fill-none, fill-more}
 use lib.ListN.{length, drop, set, replicate, length-set, drop-of-length-le}
 use borrow.Author.Needs.{needs}
-use Rattle.format.proofs.fill_with.Statement.{statement}
-use Rattle.format.proofs.fill_with.Tie as tie
+use Rattle.words.proofs.fill_with.Statement.{statement}
+use Rattle.words.proofs.fill_with.Tie as tie
 
 filled : (d d₀ : List ℕ) (b i : ℕ) → i ≤ length d₀ → length d₀ ≤ i → d ≡ replicate i b ++ drop i d₀ → d ≡ replicate (length d₀) b
 filled d d₀ b i l h e =
