@@ -485,7 +485,7 @@ static enum status type_of(uint64_t *kind, const char *word) {
     for (int i = 0; i < 4; i++, next = end + 1)
         if (!number_of(&choice[i], next, &end) || *end != (i < 3 ? ',' : '\0'))
             return usage("not the four numbers of a format choice: ", word);
-    uint64_t number = lamptassel_format(choice[0], choice[1], choice[2], choice[3], kind);
+    uint64_t number = lamptassel_format_choice(choice[0], choice[1], choice[2], choice[3], kind);
     return number == LAMPTASSEL_GOOD ? DONE : usage("no type: ", meaning(number));
 }
 

@@ -144,7 +144,8 @@ uint64_t lamptassel_execute(uint64_t kind, uint64_t block, uint64_t exponent, ui
                             uint64_t *place);
 
 /*
- * Chooses the type of a segment from a format command and what stands behind it.
+ * The format choice: the type of a segment, from a format command and what stands behind
+ * it. Nothing is formatted.
  *
  *   spt       SPT, the types that the unit supports: 0 to 7
  *   protect   PROTECT, whether it supports any: 0 or 1
@@ -155,7 +156,7 @@ uint64_t lamptassel_execute(uint64_t kind, uint64_t block, uint64_t exponent, ui
  * Returns 0; 6 for a number out of range or a wish that the unit does not support;
  * 12 for a usage that does not go with the wish.
  */
-uint64_t lamptassel_format(uint64_t spt, uint64_t protect, uint64_t fmtpinfo, uint64_t usage, uint64_t *kind);
+uint64_t lamptassel_format_choice(uint64_t spt, uint64_t protect, uint64_t fmtpinfo, uint64_t usage, uint64_t *kind);
 
 /*
  * Fills a fresh segment: all data bytes 00h, all field bytes FFh. Types 1 to 3: every block

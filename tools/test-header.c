@@ -40,7 +40,7 @@ ALWAYS(LAMPTASSEL_QUALIFIER_OF(LAMPTASSEL_SENSE_REFERENCE) == 0x03);
 /* Each function through a pointer of its own type, so that a declaration of another type does not compile. */
 static uint64_t (*const execute)(DESCRIPTION, uint8_t *, size_t, const uint8_t *, size_t, uint8_t *, size_t, uint64_t *,
                                  uint64_t *) = lamptassel_execute;
-static uint64_t (*const format)(uint64_t, uint64_t, uint64_t, uint64_t, uint64_t *) = lamptassel_format;
+static uint64_t (*const format_choice)(uint64_t, uint64_t, uint64_t, uint64_t, uint64_t *) = lamptassel_format_choice;
 static uint64_t (*const fill)(DESCRIPTION, uint8_t *, size_t) = lamptassel_fill;
 static uint64_t (*const parity)(DESCRIPTION, uint64_t, const uint8_t *, size_t, uint8_t *, size_t) = lamptassel_parity;
 static uint64_t (*const rebuild)(DESCRIPTION, uint64_t, uint64_t, const uint8_t *, size_t, uint8_t *,
@@ -195,14 +195,14 @@ static void descriptions(void) {
 
 static void formats(void) {
     uint64_t kind = UINT64_MAX;
-    CHECK(format(3, 1, 3, 1, &kind) == LAMPTASSEL_GOOD && kind == 3);
-    CHECK(format(1, 1, 3, 1, &kind) == LAMPTASSEL_PARAMETER_INVALID && kind == 0);
-    CHECK(format(0, 1, 2, 0, &kind) == LAMPTASSEL_GOOD && kind == 1);
-    CHECK(format(0, 1, 1, 0, &kind) == LAMPTASSEL_FIELD_INVALID && kind == 0);
+    CHECK(format_choice(3, 1, 3, 1, &kind) == LAMPTASSEL_GOOD && kind == 3);
+    CHECK(format_choice(1, 1, 3, 1, &kind) == LAMPTASSEL_PARAMETER_INVALID && kind == 0);
+    CHECK(format_choice(0, 1, 2, 0, &kind) == LAMPTASSEL_GOOD && kind == 1);
+    CHECK(format_choice(0, 1, 1, 0, &kind) == LAMPTASSEL_FIELD_INVALID && kind == 0);
     for (int i = 0; i < 4; i++) {
         kind = UINT64_MAX;
-        CHECK(format(0 + (i == 0) * BEYOND_32_BITS, 1 + (i == 1) * BEYOND_32_BITS, 2 + (i == 2) * BEYOND_32_BITS,
-                     0 + (i == 3) * BEYOND_32_BITS, &kind) == LAMPTASSEL_FIELD_INVALID);
+        CHECK(format_choice(0 + (i == 0) * BEYOND_32_BITS, 1 + (i == 1) * BEYOND_32_BITS, 2 + (i == 2) * BEYOND_32_BITS,
+                            0 + (i == 3) * BEYOND_32_BITS, &kind) == LAMPTASSEL_FIELD_INVALID);
         CHECK(kind == 0);
     }
 }
