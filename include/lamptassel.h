@@ -107,13 +107,14 @@ enum lamptassel_sense_of_answer {
  * blocks of the segment and no other.
  *
  * Not judged: code 011 checks nothing, a READ or VERIFY skips a block that has the escape,
- * and type 0 has no fields. The other codes check the fields that they name where it is
- * known what they must be: the guard always; the application tag with ATO 1 and a 32-byte
- * command, under its mask; the reference tag for type 1 from the low four bytes of the
- * command's address on, for type 2 from the first tag of a 32-byte command on, one more
- * for each interval, modulo 2^32; for type 3 never.
+ * and type 0 has no fields. Codes 000, 001 and 101 check all three fields, 010 all but the
+ * guard, 100 the guard alone; and each only where it is known what it must be: the guard
+ * always; the application tag with ATO 1 and a 32-byte command, under its mask; the
+ * reference tag for type 1 from the low four bytes of the command's address on, for type 2
+ * from the first tag of a 32-byte command on, one more for each interval, modulo 2^32; for
+ * type 3 never.
  *
- * A WRITE with code 000 brings no fields to judge. It inserts
+ * A WRITE with code 000 brings no fields to judge. For types 1 to 3 it inserts
  *   the guard
  *   the application tag: with ATO 0 0000h; with ATO 1 the expected tag of a 32-byte
  *       command, else FFFFh, which is the escape of types 1 and 2: a later READ or VERIFY
