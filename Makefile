@@ -27,7 +27,8 @@ target/staticlib/liblamptassel.a: target/native/liblamptassel.a
 # rt leaves a program that needs no new proof as old as it is.
 target/bin/list: $(SOURCES)
 	rt check list
-	touch $@
+	touch -c $@
+	test -s $@
 
 target/examples/cabinet: examples/cabinet.c include/lamptassel.h target/native/liblamptassel.a
 	mkdir -p target/examples
@@ -46,6 +47,8 @@ install: all
 	install -m 755 target/bin/list "$(place)/bin/lamptassel-list"
 	sed -e 's|@PREFIX@|$(PREFIX)|' -e 's|@VERSION@|$(VERSION)|' lamptassel.pc.in >"$(place)/lib/pkgconfig/lamptassel.pc"
 	chmod 644 "$(place)/lib/pkgconfig/lamptassel.pc"
+	@[ "$$(uname -m)" = x86_64 ] || \
+	    echo "install: these are for x86-64, not for this machine: $(filter-out target/native/%,$(ARCHIVE)) target/bin/list" >&2
 
 uninstall:
 	rm -f "$(place)/lib/liblamptassel.a" "$(place)/include/lamptassel.h" "$(place)/bin/lamptassel-list" \

@@ -6,13 +6,13 @@
  *   cabinet FILE P B e W N ATO            serves the commands on standard input
  *
  * P B e W N ATO describe the segment: type, block length, exponent, first address, count,
- * ATO. With --new, P may also be the four numbers of a format choice,
- * SPT,PROTECT,FMTPINFO,USAGE.
+ * ATO. P may also be the four numbers of a format choice, SPT,PROTECT,FMTPINFO,USAGE.
  *
- * Each line on standard input is a command in hexadecimal, and after it, for a WRITE, the
- * data in hexadecimal (in as many words as one likes) or @NAME, the name of a file that
- * holds it. For each the answer is printed, and the data of a good READ. Lines that begin
- * with # are printed as they are, empty ones skipped.
+ * Each line on standard input is a command in hexadecimal, and after it its buffer, as data
+ * in hexadecimal (in as many words as one likes) or as @NAME, the name of a file that holds
+ * it. A WRITE takes its data from there; a READ without one is lent a buffer of the length
+ * that it wants. For each the answer is printed, and the data of a good READ. Lines that
+ * begin with # are printed as they are, empty ones skipped.
  *
  * Exit status: 0, whatever the answers; 1 if the incident takes another course than it
  * should; 2 for words or lines that cannot be understood; 3 if a file cannot be read or
@@ -109,7 +109,7 @@ static void print_answer(struct answer a) {
         printf(", sense %02" PRIX32 "/%02" PRIX32 "/%02" PRIX32, LAMPTASSEL_KEY_OF(sense),
                LAMPTASSEL_CODE_OF(sense), LAMPTASSEL_QUALIFIER_OF(sense));
     if (a.number >= LAMPTASSEL_GUARD_CHECK_FAILED && a.number <= LAMPTASSEL_REFERENCE_CHECK_FAILED)
-        printf(", address %" PRIu64 ", place %" PRIu64, a.address, a.place);
+        printf(", address %" PRIu64 ", interval %" PRIu64, a.address, a.place);
     putchar('\n');
 }
 
@@ -485,7 +485,7 @@ static enum status type_of(uint64_t *kind, const char *word) {
     for (int i = 0; i < 4; i++, next = end + 1)
         if (!number_of(&choice[i], next, &end) || *end != (i < 3 ? ',' : '\0'))
             return usage("not the four numbers of a format choice: ", word);
-    uint64_t number = lamptassel_format(choice[0], choice[1], choice[2], choice[3], kind);
+    uint64_t number = lamptassel_format_choice(choice[0], choice[1], choice[2], choice[3], kind);
     return number == LAMPTASSEL_GOOD ? DONE : usage("no type: ", meaning(number));
 }
 

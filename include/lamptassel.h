@@ -12,12 +12,16 @@
  * - What lies behind a const pointer is only read, and may overlap other buffers that are
  *   only read. What lies behind any other pointer must overlap nothing else that is lent;
  *   so `address` and `place` are two places. No alignment of buffers is asked for.
- * - Any answer but LAMPTASSEL_GOOD leaves every lent byte as it was. Only `*address`,
- *   `*place` and `*kind` are written with every answer. (lamptassel_list gives no answer's
- *   number: it prints every record, a refused one in one line.)
- * - Nothing is kept after the call: no allocation, no global state, no lock. Any number
- *   of threads may call at once, as long as nobody else touches a buffer during the call
- *   that writes it, or writes one during a call that reads it.
+ * - Any answer but 0 leaves every lent byte as it was. Only `*address`, `*place` and
+ *   `*kind` are written with every answer. (lamptassel_list gives no answer's number: it
+ *   prints every record, a refused one in one line.)
+ * - Nothing is kept after the call: no allocation, no global state, no lock. A call needs
+ *   less than 4 KB of stack.
+ * - Any number of threads may call at once, as long as nobody else touches a buffer during
+ *   the call that writes it, or writes one during a call that reads it. A READ and a VERIFY
+ *   only read `segment`, and a WRITE only reads `buffer`, though they are not const: so
+ *   READs and VERIFYs of one segment may run at the same time, and what is only read may
+ *   lie in read-only memory (a cast from const is allowed there).
  *
  * A segment is told by six numbers, in this order:
  *
@@ -31,7 +35,10 @@
  * For types 1 to 3 each interval of B / n data bytes is followed by its fields, eight
  * bytes: guard (2), application tag (2), reference tag (4), all big-endian. A stored
  * block has S = B + 8n bytes, for type 0 S = B; a segment has exactly N * S. Numbers that
- * describe no segment are refused with LAMPTASSEL_DESCRIPTION_BAD.
+ * describe no segment are refused with answer 1.
+ *
+ * A block has the escape if one of its intervals has the application tag FFFFh, for type 3
+ * with the reference tag FFFFFFFFh.
  */
 #ifndef LAMPTASSEL_H
 #define LAMPTASSEL_H
@@ -43,7 +50,10 @@
 extern "C" {
 #endif
 
-/* The answers. 8 to 10 come with the address of the block and the place of the interval. */
+/*
+ * The answers; comments call them by their numbers. 8 to 10 come with the address of the
+ * block and the place of the interval.
+ */
 enum lamptassel_answer {
     LAMPTASSEL_GOOD = 0,
     LAMPTASSEL_DESCRIPTION_BAD = 1,
@@ -59,7 +69,7 @@ enum lamptassel_answer {
     LAMPTASSEL_STRIPE_SHAPE_BAD = 11,
     LAMPTASSEL_PARAMETER_INVALID = 12,   /* a field in the parameter list */
     LAMPTASSEL_LISTING_RECORD_BAD = 13,  /* only ever printed, by lamptassel_list */
-    LAMPTASSEL_TRANSFER_TOO_LARGE = 14   /* above 4,294,967,295 bytes: no segment is so large */
+    LAMPTASSEL_TRANSFER_TOO_LARGE = 14   /* above 4,294,967,295 bytes: never reached, no segment is so large */
 };
 
 /* The senses, as lamptassel_sense gives them; the other answers have none. */
@@ -96,20 +106,38 @@ enum lamptassel_sense_of_answer {
  * change the segment, a WRITE never the buffer; a good WRITE overwrites the transfer's own
  * blocks of the segment and no other.
  *
+ * Not judged: code 011 checks nothing, a READ or VERIFY skips a block that has the escape,
+ * and type 0 has no fields. Codes 000, 001 and 101 check all three fields, 010 all but the
+ * guard, 100 the guard alone; and each only where it is known what it must be: the guard
+ * always; the application tag with ATO 1 and a 32-byte command, under its mask; the
+ * reference tag for type 1 from the low four bytes of the command's address on, for type 2
+ * from the first tag of a 32-byte command on, one more for each interval, modulo 2^32; for
+ * type 3 never.
+ *
+ * A WRITE with code 000 brings no fields to judge. For types 1 to 3 it inserts
+ *   the guard
+ *   the application tag: with ATO 0 0000h; with ATO 1 the expected tag of a 32-byte
+ *       command, else FFFFh, which is the escape of types 1 and 2: a later READ or VERIFY
+ *       does not check such a block
+ *   the reference tag: as expected above; for type 2 with 10, 12 or 16 bytes the address of
+ *       the block * n + the interval in the block, modulo 2^32; for type 3 0
+ *
  * Returns
  *   0   good
  *   1   the six numbers describe no segment
  *   2   segment_length is not N * S
  *   3   the command is empty, or not as long as its operation asks
  *   4   buffer_length is not the one told above
- *   5   the operation is not served, or not on this type of segment
+ *   5   the operation is not served; types 0, 1 and 3 serve no 32-byte command; type 2
+ *       serves 10, 12 and 16 bytes with code 000 alone
  *   6   a field of the command is invalid: its protect code (110, 111; for type 0 any but
  *       000), the byte-check bits of a VERIFY, or byte 7 of 32
  *   7   the transfer reaches outside the segment, or a T of 0 starts there
  *   8, 9, 10  guard, application tag or reference tag of an interval is not as expected:
  *       in the first such interval, the first of these
+ *   14  the transfer has more than 4,294,967,295 bytes: never reached
  * Where several apply: 1, then 2, then those of the command's own bytes (3, 5, 6, in the
- * order of document 01), then 7, then 4, then 8 to 10.
+ * order of document 01), then 7, then 14, then 4, then 8 to 10.
  */
 uint64_t lamptassel_execute(uint64_t kind, uint64_t block, uint64_t exponent, uint64_t first, uint64_t count,
                             uint64_t ato, uint8_t *segment, size_t segment_length, const uint8_t *command,
@@ -117,7 +145,8 @@ uint64_t lamptassel_execute(uint64_t kind, uint64_t block, uint64_t exponent, ui
                             uint64_t *place);
 
 /*
- * Chooses the type of a segment from a format command and what stands behind it.
+ * The format choice: the type of a segment, from a format command and what stands behind
+ * it. Nothing is formatted.
  *
  *   spt       SPT, the types that the unit supports: 0 to 7
  *   protect   PROTECT, whether it supports any: 0 or 1
@@ -128,11 +157,11 @@ uint64_t lamptassel_execute(uint64_t kind, uint64_t block, uint64_t exponent, ui
  * Returns 0; 6 for a number out of range or a wish that the unit does not support;
  * 12 for a usage that does not go with the wish.
  */
-uint64_t lamptassel_format(uint64_t spt, uint64_t protect, uint64_t fmtpinfo, uint64_t usage, uint64_t *kind);
+uint64_t lamptassel_format_choice(uint64_t spt, uint64_t protect, uint64_t fmtpinfo, uint64_t usage, uint64_t *kind);
 
 /*
- * Fills a fresh segment: all data bytes 00h, all field bytes FFh, so that every block has
- * the escape and is not checked until it is written.
+ * Fills a fresh segment: all data bytes 00h, all field bytes FFh. Types 1 to 3: every block
+ * has the escape, and READ and VERIFY check nothing in it.
  *
  *   kind .. ato  the segment's six numbers
  *   segment      room for its stored blocks, N * S bytes
@@ -171,7 +200,8 @@ uint64_t lamptassel_parity(uint64_t kind, uint64_t block, uint64_t exponent, uin
  *   lost         the lost part's number: 0 to k - 1 for a member, k for the parity
  *   parts        the k members and then the parity, end to end, (k + 1) * N * S bytes; the
  *                lost one's bytes are not used
- *   out          where the lost part goes, N * S bytes; what it held does not matter
+ *   out          where the lost part goes, N * S bytes; what it held does not matter. It must
+ *                not be the lost part's own place in parts, nor overlap parts at all
  */
 uint64_t lamptassel_rebuild(uint64_t kind, uint64_t block, uint64_t exponent, uint64_t first, uint64_t count,
                             uint64_t ato, uint64_t k, uint64_t lost, const uint8_t *parts, size_t parts_length,
@@ -182,13 +212,13 @@ uint64_t lamptassel_rebuild(uint64_t kind, uint64_t block, uint64_t exponent, ui
  *
  *   kind .. ato  the six numbers of each member
  *   old          the member's bytes before, N * S
- *   fresh        its bytes after, N * S
+ *   changed      its bytes after, N * S
  *   parity       the parity that went with the old ones, N * S bytes; becomes that of the
- *                fresh ones
+ *                changed ones
  */
 uint64_t lamptassel_correct(uint64_t kind, uint64_t block, uint64_t exponent, uint64_t first, uint64_t count,
-                            uint64_t ato, const uint8_t *old, size_t old_length, const uint8_t *fresh,
-                            size_t fresh_length, uint8_t *parity, size_t parity_length);
+                            uint64_t ato, const uint8_t *old, size_t old_length, const uint8_t *changed,
+                            size_t changed_length, uint8_t *parity, size_t parity_length);
 
 /*
  * Returns the guard of an interval's data: the remainder of the data times x^16, divided

@@ -1,7 +1,14 @@
-/* The header as C11 and C++17 read it, against the archive: types, widths, constants, empty buffers, each answer.
-   No header but its own is included, so that the kit's compiler, which has no C library's, compiles it too. */
+/* The header as C11 and C++17 read it, against the archive: types, widths, constants, empty buffers, each answer, and
+   where there are <sys/mman.h> and <ucontext.h> what is only read and the stack. No other header than its own is asked
+   for, so that the kit's compiler, which has no C library's, compiles it too. */
+#define _DEFAULT_SOURCE
 #include "lamptassel.h"
 #include "lamptassel.h"
+#if __has_include(<sys/mman.h>) && __has_include(<ucontext.h>)
+#include <sys/mman.h>
+#include <ucontext.h>
+#define WITH_SYSTEM
+#endif
 
 #ifdef __cplusplus
 #define ALWAYS(condition) static_assert(condition, #condition)
@@ -33,7 +40,7 @@ ALWAYS(LAMPTASSEL_QUALIFIER_OF(LAMPTASSEL_SENSE_REFERENCE) == 0x03);
 /* Each function through a pointer of its own type, so that a declaration of another type does not compile. */
 static uint64_t (*const execute)(DESCRIPTION, uint8_t *, size_t, const uint8_t *, size_t, uint8_t *, size_t, uint64_t *,
                                  uint64_t *) = lamptassel_execute;
-static uint64_t (*const format)(uint64_t, uint64_t, uint64_t, uint64_t, uint64_t *) = lamptassel_format;
+static uint64_t (*const format_choice)(uint64_t, uint64_t, uint64_t, uint64_t, uint64_t *) = lamptassel_format_choice;
 static uint64_t (*const fill)(DESCRIPTION, uint8_t *, size_t) = lamptassel_fill;
 static uint64_t (*const parity)(DESCRIPTION, uint64_t, const uint8_t *, size_t, uint8_t *, size_t) = lamptassel_parity;
 static uint64_t (*const rebuild)(DESCRIPTION, uint64_t, uint64_t, const uint8_t *, size_t, uint8_t *,
@@ -188,14 +195,14 @@ static void descriptions(void) {
 
 static void formats(void) {
     uint64_t kind = UINT64_MAX;
-    CHECK(format(3, 1, 3, 1, &kind) == LAMPTASSEL_GOOD && kind == 3);
-    CHECK(format(1, 1, 3, 1, &kind) == LAMPTASSEL_PARAMETER_INVALID && kind == 0);
-    CHECK(format(0, 1, 2, 0, &kind) == LAMPTASSEL_GOOD && kind == 1);
-    CHECK(format(0, 1, 1, 0, &kind) == LAMPTASSEL_FIELD_INVALID && kind == 0);
+    CHECK(format_choice(3, 1, 3, 1, &kind) == LAMPTASSEL_GOOD && kind == 3);
+    CHECK(format_choice(1, 1, 3, 1, &kind) == LAMPTASSEL_PARAMETER_INVALID && kind == 0);
+    CHECK(format_choice(0, 1, 2, 0, &kind) == LAMPTASSEL_GOOD && kind == 1);
+    CHECK(format_choice(0, 1, 1, 0, &kind) == LAMPTASSEL_FIELD_INVALID && kind == 0);
     for (int i = 0; i < 4; i++) {
         kind = UINT64_MAX;
-        CHECK(format(0 + (i == 0) * BEYOND_32_BITS, 1 + (i == 1) * BEYOND_32_BITS, 2 + (i == 2) * BEYOND_32_BITS,
-                     0 + (i == 3) * BEYOND_32_BITS, &kind) == LAMPTASSEL_FIELD_INVALID);
+        CHECK(format_choice(0 + (i == 0) * BEYOND_32_BITS, 1 + (i == 1) * BEYOND_32_BITS, 2 + (i == 2) * BEYOND_32_BITS,
+                            0 + (i == 3) * BEYOND_32_BITS, &kind) == LAMPTASSEL_FIELD_INVALID);
         CHECK(kind == 0);
     }
 }
@@ -296,7 +303,97 @@ static void senses(void) {
     CHECK(sense(15) == 0);
 }
 
+#ifdef WITH_SYSTEM
+/* One block of 4,088 bytes in each page. */
+static const struct description OF_A_PAGE = {1, 4088, 0, 7, 1, 0};
+enum { PAGE = 4096 };
+
+static uint8_t *page(void) {
+    void *at = mmap(NULL, PAGE, PROT_READ | PROT_WRITE, MAP_PRIVATE | MAP_ANONYMOUS, -1, 0);
+    CHECK(at != MAP_FAILED);
+    return at == MAP_FAILED ? NULL : (uint8_t *)at;
+}
+
+static void on_page(uint8_t *segment, const uint8_t *command, uint8_t *buffer, size_t length, uint64_t number) {
+    uint64_t address, place;
+    CHECK(execute(TOLD(&OF_A_PAGE), segment, PAGE, command, 10, buffer, length, &address, &place) == number);
+}
+
+/* A write to what is only read ends the test at once. */
+static void read_only_memory(void) {
+    static const uint8_t READ_BARE[10] = {0x28, 0, 0, 0, 0, 7, 0, 0, 1, 0};
+    static const uint8_t READ_WHOLE[10] = {0x28, 0x20, 0, 0, 0, 7, 0, 0, 1, 0};
+    static const uint8_t WRITE_BARE[10] = {0x2A, 0, 0, 0, 0, 7, 0, 0, 1, 0};
+    static const uint8_t WRITE_WHOLE[10] = {0x2A, 0x20, 0, 0, 0, 7, 0, 0, 1, 0};
+    uint8_t *lent = page(), *stored = page(), *other = page();
+    if (lent == NULL || stored == NULL || other == NULL)
+        return;
+    memset(lent, 0x5A, PAGE);
+    CHECK(mprotect(lent, PAGE, PROT_READ) == 0);
+    on_page(stored, WRITE_BARE, lent, 4088, LAMPTASSEL_GOOD);
+    on_page(stored, WRITE_WHOLE, lent, PAGE, LAMPTASSEL_GUARD_CHECK_FAILED);
+    CHECK(mprotect(stored, PAGE, PROT_READ) == 0);
+    on_page(other, WRITE_WHOLE, stored, PAGE, LAMPTASSEL_GOOD);
+    CHECK(memcmp(other, stored, PAGE) == 0);
+    on_page(stored, READ_BARE, other, 4088, LAMPTASSEL_GOOD);
+    on_page(stored, READ_WHOLE, other, PAGE, LAMPTASSEL_GOOD);
+    on_page(stored, VERIFY_ONE, NULL, 0, LAMPTASSEL_GOOD);
+    on_page(lent, READ_BARE, other, 4088, LAMPTASSEL_GUARD_CHECK_FAILED);
+    on_page(lent, VERIFY_ONE, NULL, 0, LAMPTASSEL_GUARD_CHECK_FAILED);
+    munmap(lent, PAGE);
+    munmap(stored, PAGE);
+    munmap(other, PAGE);
+}
+
+/* The deepest calls: numbers of 19 digits are listed, a command judges and stores. */
+static void deep_calls(void) {
+    static const uint8_t RECORD[35] = {0,    0,    0,    31,   1,    1,    0,    0, 8, 0x7F,
+                                       0xFF, 0xFF, 0xFF, 0xFF, 0xFF, 0xFF, 0xFE, 0, 1};
+    static uint8_t out[256], segment[48];
+    static uint64_t address, place;
+    memcpy(segment, M, sizeof M);
+    list(RECORD, sizeof RECORD, out, sizeof out);
+    execute(TOLD(&OF_M), segment, 48, WRITE_DATA, 10, out, 8, &address, &place);
+    execute(TOLD(&OF_M), segment, 48, WRITE_THIRD, 10, out, 16, &address, &place);
+    execute(TOLD(&OF_M), segment, 48, READ_TWO, 10, out, 32, &address, &place);
+    fill(TOLD(&OF_M), segment, 48);
+    parity(TOLD(&OF_ONE_BLOCK), 2, M, 32, out, 16);
+    rebuild(TOLD(&OF_ONE_BLOCK), 2, 0, M, 48, out, 16);
+    correct(TOLD(&OF_ONE_BLOCK), M, 16, M + 16, 16, out, 16);
+    guards(M, 48, 8, out, 12);
+    guard(M, 48);
+}
+
+static uint8_t of_known_bytes[65536];
+
+static void call_deep_on_known_bytes(void) {
+    static ucontext_t here, there;
+    CHECK(getcontext(&there) == 0);
+    there.uc_stack.ss_sp = of_known_bytes;
+    there.uc_stack.ss_size = sizeof of_known_bytes;
+    there.uc_link = &here;
+    makecontext(&there, deep_calls, 0);
+    CHECK(swapcontext(&here, &there) == 0);
+}
+
+/* The header's 4 KB, seen by the known bytes that are left of a stack. */
+static void stack(void) {
+    enum { KNOWN = 0x5A };
+    size_t left = 0;
+    deep_calls(); /* what is bound at a first call is bound here */
+    memset(of_known_bytes, KNOWN, sizeof of_known_bytes);
+    call_deep_on_known_bytes();
+    while (left < sizeof of_known_bytes && of_known_bytes[left] == KNOWN)
+        left++;
+    CHECK(left < sizeof of_known_bytes && sizeof of_known_bytes - left < 4096);
+}
+#endif
+
 int main(void) {
+#ifdef WITH_SYSTEM
+    read_only_memory();
+    stack();
+#endif
     commands();
     long_command();
     wide_address();
