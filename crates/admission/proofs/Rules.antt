@@ -109,18 +109,10 @@ module _ (c : Command) where
   unfolding codeRule
   code-fits h = rw (le-ltb 0b101 (c .code) h)
 
-  pub check-other : isVerify (c .operation) ≡ false → checkRule c ≡ answers.Good
-  unfolding checkRule
-  check-other v = rw v
-
   pub check-zero : c .check ≡ 0 → checkRule c ≡ answers.Good
   unfolding checkRule
-  check-zero z = rw (eq-eqb (c .check) 0 z) (none (isVerify (c .operation)))
-    where
-      none : (a : Bool) → cond (a && false) answers.Field answers.Good ≡ answers.Good
-      none true = refl
-      none false = refl
+  check-zero z = rw (eq-eqb (c .check) 0 z)
 
-  pub check-some : isVerify (c .operation) ≡ true → (c .check ≡ 0 → ⊥) → checkRule c ≡ answers.Field
+  pub check-some : (c .check ≡ 0 → ⊥) → checkRule c ≡ answers.Field
   unfolding checkRule
-  check-some v n = rw (v, ne-eqb (c .check) 0 n)
+  check-some n = rw (ne-eqb (c .check) 0 n)

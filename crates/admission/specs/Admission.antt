@@ -34,9 +34,9 @@ isVerify Read = false
 isVerify Write = false
 isVerify Verify = true
 
--- "byte-check bits 6": "VERIFY has byte-check bits 2-1 of the protect byte; they must be 0."
+-- "byte-check bits 6": "VERIFY has byte-check bits 2-1 of the protect byte; they must be 0."; the others have none, and 0 here
 unfoldable pub checkRule : Command → Answer
-checkRule c = cond (isVerify (c .operation) && not (eqb (c .check) 0)) answers.Field answers.Good
+checkRule c = cond (eqb (c .check) 0) answers.Good answers.Field
 
 -- "address below W or address + T above W + N, as whole numbers, 7"
 unfoldable pub rangeRule : Description → Command → Answer

@@ -51,17 +51,10 @@ fn code_rule(c: Command) -> Answer
 fn check_rule(c: Command) -> Answer
     ensures { λ r. ⌜ r ≡ checkRule c ⌝ }
 {
-    let o = c.operation;
-    match o {
-        Operation::Read => Answer::Good,
-        Operation::Write => Answer::Good,
-        Operation::Verify => {
-            if c.check == 0 {
-                return Answer::Good;
-            }
-            Answer::Field
-        }
+    if c.check == 0 {
+        return Answer::Good;
     }
+    Answer::Field
 }
 
 fn range_rule(d: Description, c: Command) -> Answer

@@ -81,7 +81,7 @@ refusal-other d c b =
     (other-of (eqb (d .kind) 0 && not (eqb (c .code) 0)) _ _ refl refl)) in
     or-else (typeRules d c) _ types
     (or-else (codeRule c) _ (other-of (ltb 0b101 (c .code)) _ _ refl refl)
-    (or-else (checkRule c) _ (other-of (isVerify (c .operation) && not (eqb (c .check) 0)) _ _ refl refl)
+    (or-else (checkRule c) _ (other-of (eqb (c .check) 0) _ _ refl refl)
     (or-else (rangeRule d c) _ (other-of (ltb (c .address) (d .first) || ltb (d .first + d .count) (c .address + c .length)) _ _ refl refl)
     (or-else (sizeRule d c) _ (other-of (ltb 4294967295 (movedOf d c)) _ _ refl refl)
     (other-of (eqb b (bufferOf d c)) _ _ refl refl)))))
