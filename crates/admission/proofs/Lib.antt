@@ -1,3 +1,4 @@
 pub mod Rules
 pub mod Ladder
 pub mod Ready
+pub mod Coincide

@@ -1,2 +1,3 @@
 pub mod Sentences
 pub mod Demands
+pub mod Coincide

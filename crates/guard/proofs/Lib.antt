@@ -2,3 +2,4 @@ pub mod Remainder
 pub mod Division
 pub mod ByTable
 pub mod Laws
+pub mod Coincide

@@ -1,5 +1,5 @@
 -- What is asked of a listing: its last line counts its own lines; there is one line for each interval; a line is faulty exactly
--- where READ's judging finds a fault; and the contract leaves no choice. Assumes nothing.
+-- where READ's judging finds a fault. Assumes nothing.
 use mathlib.Core.Path.{_≡_, refl, sym, ap, _∙_}
 use mathlib.Core.Logic.{_↔_}
 use mathlib.Core.Bool.{Bool, true, false, _&&_, cond, true≢false}
@@ -107,10 +107,6 @@ pub faults-are-judged : (d : Description) (s : List ℕ) → Segment d → lengt
     → (judgeBlocks (rulesOf d (readAll d)) (d .count) (startOf d (readAll d)) s ≡ answers.Good) ↔ (countOf faulty (linesOf d s) ≡ 0)
 faults-are-judged d s g long n =
     rw (lines-are d s g long n) (faults-blocks (rulesOf d (readAll d)) (read-plain d) (d .count) (startOf d (readAll d)) s)
-
--- ---- the contract of `list` leaves no choice
-pub listed-one : {input out left left′ : List ℕ} {r r′ : ℕ} → Listed input out r left → Listed input out r′ left′ → (r ≡ r′) × (left ≡ left′)
-listed-one p q = (p .count ∙ sym (q .count), p .text ∙ sym (q .text))
 
 -- ---- a listing has at most 524,288 bytes
 numbers-most : (l f k : ℕ) → length (numbersText l f k) ≤ 88

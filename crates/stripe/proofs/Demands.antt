@@ -1,5 +1,5 @@
 -- Demand 3, on the definitions that the contracts cite and then for the calls themselves: parity's guard errors, parts that are lost and rebuilt,
--- parity that is corrected; and that every outcome is settled. Each is stated over any number of members and any part.
+-- parity that is corrected; and what a refusal leaves. Each is stated over any number of members and any part.
 -- Assumes nothing.
 use mathlib.Core.Path.{_≡_, sym, ap, ap₂, _∙_}
 use mathlib.Core.Logic.{_↔_}
@@ -9,7 +9,6 @@ use Prim.Native.Nat.{ℕ, zero, suc, _+_, _*_, _≤_, _<_}
 use native.Mathlib.Nat.{add-mul, mul-assoc}
 use native.Mathlib.Numerals.{add-one}
 use native.Mathlib.Omega.{arith}
-use borrow.Author.Tests.{eq-eqb}
 use lib.Bits.{bitXor, xor-zero-l, xor-self}
 use lib.Dec.{T-not, eqb, eqb→eq}
 use lib.ListN.{length, drop, length-drop}
@@ -25,7 +24,7 @@ use Rattle.answer.specs.declared.Answer.the-variants as answers
 use Rattle.segment.specs.declared.Description.{Description}
 use Rattle.segment.specs.Segment.{Segment, isSegment, intervalsOf, sizeOf, storedOf, lengthOf}
 use Rattle.segment.proofs.Laws.{stored-intervals}
-use Rattle.stripe.specs.Stripe.{part, xorParts, parityOf, rebuiltOf, correctedOf, Striped, striped, stripedOf, members, makeAnswered, rebuildAnswered, correctAnswered}
+use Rattle.stripe.specs.Stripe.{part, parityOf, rebuiltOf, correctedOf, Striped, striped, stripedOf, makeAnswered, rebuildAnswered, correctAnswered}
 use Rattle.stripe.specs.Fit.{Making, Rebuilding, Correcting}
 use Rattle.stripe.specs.Error.{errorAt, memberError, beginOf, errorIn, xorOver}
 use Rattle.stripe.proofs.Sums.{by-side, member-part, parity-part, any-part, all-but-one, others-only, parityOf-length, rebuiltOf-length, ends, part-length, put-part, put-other}
@@ -234,13 +233,8 @@ module _ (d : Description) (k : ℕ) (s out parity : List ℕ) (made : striped a
       put-whole : length (put (m * lengthOf d) new s) ≡ k * lengthOf d
       put-whole = put-length (m * lengthOf d) new s (rw (size, making .whole) (ends (lengthOf d) m k among)) ∙ making .whole
 
--- ---- every outcome is settled
+-- ---- any answer but 0 leaves every lent byte
 
--- any two answers that a contract permits coincide, and so does every lent byte
-pub settled : (x : Striped) (a b : Answer) (l m : List ℕ) → striped a l ≡ x → striped b m ≡ x → (a ≡ b) × (l ≡ m)
-settled x a b l m p q = (ap (λ (y : Striped). y .answer) (p ∙ sym q), ap (λ (y : Striped). y .lent) (p ∙ sym q))
-
--- any answer but 0 leaves every lent byte
 either : (b c : Bool) (old new : List ℕ) (a : Answer) (l : List ℕ)
     → striped a l ≡ cond b (striped answers.Description old) (cond c (striped answers.Good new) (striped answers.Stripe old)) → (a ≡ answers.Good → ⊥) → l ≡ old
 either true c old new a l e n = ap (λ (y : Striped). y .lent) e

@@ -134,14 +134,6 @@ settled false false true c r e = refl
 settled false false false c r e = e
 
 module _ (d : Description) (segment command buffer : List ℕ) where
-  -- "any two permitted answers coincide": an outcome that the contract permits is this one
-  pub outcomes-coincide : (a a′ : Answer) (s s′ b b′ : List ℕ)
-      → outcome a s b ≡ executed d segment command buffer → outcome a′ s′ b′ ≡ executed d segment command buffer
-      → (a ≡ a′) × (s ≡ s′) × (b ≡ b′)
-  outcomes-coincide a a′ s s′ b b′ p q =
-      let e : outcome a s b ≡ outcome a′ s′ b′ = p ∙ sym q in
-      (ap (λ (o : Outcome). o .answer) e, ap (λ (o : Outcome). o .segment) e, ap (λ (o : Outcome). o .buffer) e)
-
   -- every input gets an answer of the table
   pub one-answer : numberOf (executed d segment command buffer .answer) ≤ 14
   one-answer = in-table (executed d segment command buffer .answer)

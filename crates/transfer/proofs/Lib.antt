@@ -8,3 +8,4 @@ pub mod InOrder
 pub mod Demands
 pub mod Moved
 pub mod Inserted
+pub mod Coincide

@@ -5,3 +5,4 @@ pub mod Parts
 pub mod Every
 pub mod Runs
 pub mod Choice
+pub mod Coincide

@@ -1,1 +1,0 @@
-// The theorems are in proofs/Demands.antt; no code stands on them.

@@ -1,0 +1,24 @@
+-- "any two permitted answers coincide": of each public function, over its contract as it stands. Whatever the arguments a are, two
+-- answers x and y that the contract permits are one, and so is each byte lent to be written, as the calls leave it in s and in t.
+-- Assumes nothing.
+use mathlib.Core.Path.{_≡_, sym, _∙_}
+use Rattle.segment.proofs.fit.Reads as fit-reads
+use Rattle.segment.proofs.intervals.Reads as intervals-reads
+use Rattle.segment.proofs.size.Reads as size-reads
+use Rattle.segment.proofs.stored.Reads as stored-reads
+use Rattle.segment.proofs.length.Reads as length-reads
+
+pub fit : (κs : _) (a : _) (x y : _) (s t : _) → fit-reads.Post κs a x s → fit-reads.Post κs a y t → x ≡ y
+fit κs a x y s t p q = p ∙ sym q
+
+pub intervals : (κs : _) (a : _) (x y : _) (s t : _) → intervals-reads.Post κs a x s → intervals-reads.Post κs a y t → x ≡ y
+intervals κs a x y s t p q = p ∙ sym q
+
+pub size : (κs : _) (a : _) (x y : _) (s t : _) → size-reads.Post κs a x s → size-reads.Post κs a y t → x ≡ y
+size κs a x y s t p q = p ∙ sym q
+
+pub stored : (κs : _) (a : _) (x y : _) (s t : _) → stored-reads.Post κs a x s → stored-reads.Post κs a y t → x ≡ y
+stored κs a x y s t p q = p ∙ sym q
+
+pub length : (κs : _) (a : _) (x y : _) (s t : _) → length-reads.Post κs a x s → length-reads.Post κs a y t → x ≡ y
+length κs a x y s t p q = p ∙ sym q
