@@ -11,7 +11,7 @@ VERSION = 0.1.0
 CFLAGS = -O2
 quietly = $(if $(filter 1,$(V)),,@)
 # The archive that is installed. target/native/liblamptassel.a is for this machine, also
-# where that is no x86-64.
+# where that is not x86-64.
 ARCHIVE = target/staticlib/liblamptassel.a
 
 SOURCES = crates.txt $(wildcard crates/*/src/*.rt crates/*/specs/*.antt crates/*/proofs/*.antt crates/*/proofs/*/*.antt)
