@@ -246,8 +246,8 @@ uint64_t lamptassel_guards(const uint8_t *data, size_t length, size_t size, uint
  * Writes the listing of a record: a header, one line for each interval of its segment, with
  * its fields and whether they are right, and the totals. For a record that is refused it is
  * one line: "refused 13" if the record is bad, "refused 1" if it describes no segment,
- * "refused 2" if its segment has another length than described. Each line ends with a line feed;
- * there is no zero byte at the end.
+ * "refused 2" if its segment has another length than described. Each line ends with a line
+ * feed; there is no zero byte at the end.
  *
  *   input  the whole record: its length L (4 bytes, at most 65,532), then L bytes: version 1,
  *          P, e (one byte each), B (2), W (8), N (2), all big-endian, and the segment
