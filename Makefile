@@ -3,13 +3,15 @@
 # make check      the gate
 # make install    archive, header, pkg-config file and listing program to PREFIX, under
 #                 DESTDIR if that is given; make uninstall takes them away again
+# With V=1 each shows its commands and the prover's whole report.
 
 PREFIX = /usr/local
 DESTDIR =
 VERSION = 0.1.0
 CFLAGS = -O2
+quietly = $(if $(filter 1,$(V)),,@)
 # The archive that is installed. target/native/liblamptassel.a is for this machine, also
-# where that is no x86-64.
+# where that is not x86-64.
 ARCHIVE = target/staticlib/liblamptassel.a
 
 SOURCES = crates.txt $(wildcard crates/*/src/*.rt crates/*/specs/*.antt crates/*/proofs/*.antt crates/*/proofs/*/*.antt)
@@ -19,20 +21,20 @@ all: $(ARCHIVE) target/bin/list
 
 # One run of tools/archive writes both.
 target/native/liblamptassel.a: $(SOURCES)
-	tools/archive
+	$(quietly)tools/archive
 
 target/staticlib/liblamptassel.a: target/native/liblamptassel.a
-	@[ -f $@ ] || tools/archive
+	$(quietly)[ -f $@ ] || tools/archive
 
 # rt leaves a program that needs no new proof as old as it is.
 target/bin/list: $(SOURCES)
-	rt check list
-	touch -c $@
-	test -s $@
+	$(quietly)tools/prove check list
+	$(quietly)touch -c $@
+	$(quietly)test -s $@
 
 target/examples/cabinet: examples/cabinet.c include/lamptassel.h target/native/liblamptassel.a
-	mkdir -p target/examples
-	$(CC) -std=c11 -Wall -Wextra -Werror $(CFLAGS) -Iinclude examples/cabinet.c target/native/liblamptassel.a -o $@
+	$(quietly)mkdir -p target/examples
+	$(quietly)$(CC) -std=c11 -Wall -Wextra -Werror $(CFLAGS) -Iinclude examples/cabinet.c target/native/liblamptassel.a -o $@
 
 incident: target/examples/cabinet
 	@target/examples/cabinet incident

@@ -14,9 +14,8 @@
  * that it wants. For each the answer is printed, and the data of a good READ. Lines that
  * begin with # are printed as they are, empty ones skipped.
  *
- * Exit status: 0, whatever the answers; 1 if the incident takes another course than it
- * should; 2 for words or lines that cannot be understood; 3 if a file cannot be read or
- * written.
+ * Exit status: 0, whatever the answers; 1 if the incident does not go as it should; 2 for
+ * words or lines that cannot be understood; 3 if a file cannot be read or written.
  */
 #define _POSIX_C_SOURCE 200809L
 #include <ctype.h>
@@ -59,7 +58,7 @@ static enum status broken(const char *name) {
     return BROKEN;
 }
 
-/* Room for `length` bytes, and a pointer that is not null for none either. */
+/* Room for `length` bytes; the pointer is not null even where that is 0. */
 static enum status lend(struct bytes *bytes, size_t length) {
     bytes->at = calloc(length + 1, 1);
     bytes->length = length;
@@ -167,7 +166,8 @@ static size_t stored_length(const struct cabinet *c) {
     return (size_t)(c->block + (c->kind == 0 ? 0 : UINT64_C(8) << c->exponent));
 }
 
-/* The buffer that a READ wants. Where none is large enough the library refuses before it looks at the buffer. */
+/* The length of buffer that a READ wants. Where no buffer is long enough, the library refuses the command before it looks
+   at the buffer. */
 static size_t read_length(const struct cabinet *c, struct transfer t) {
     size_t stored = stored_length(c);
     if (!t.read || t.blocks > MOST_BLOCKS || stored == 0)
@@ -355,7 +355,7 @@ static struct ten one_block(uint8_t operation, uint8_t code, uint32_t address) {
     return command;
 }
 
-/* Executes and shows a command; tells whether the answer is the one that the story has. */
+/* Executes and shows a command; returns whether the answer is the one that the story expects. */
 static bool step(struct cabinet *c, const char *name, struct ten command, struct bytes buffer, uint64_t expected) {
     struct answer a = execute(c, command.at, sizeof command.at, buffer);
     printf("   %s ", name);
@@ -456,7 +456,7 @@ static enum status incident(void) {
         told = old_cabinet(&c) && told;
     }
     if (status == DONE && !told) {
-        fprintf(stderr, "cabinet: the incident took another course\n");
+        fprintf(stderr, "cabinet: the incident did not go as it should\n");
         status = OTHERWISE;
     }
     return close_cabinet(&c, status);

@@ -4,8 +4,8 @@
  * For C11 and C++17 on x86-64 Linux; link with -llamptassel. "Document 01" below is
  * "Blocks, commands and answers of the cabinet", whose words and numbers are used here.
  *
- * Every function answers every input: a value out of range is refused, never cut, and
- * never a fault of the program. What holds for all of them:
+ * Every function answers every input. A value out of range is refused; it is never cut to
+ * fewer bits and never makes the program fail. What holds for all functions:
  *
  * - A buffer is lent as a pointer and its length in bytes. A pointer may be null where
  *   its length is 0. `address`, `place` and `kind` must never be null.
@@ -13,8 +13,8 @@
  *   only read. What lies behind any other pointer must overlap nothing else that is lent;
  *   so `address` and `place` are two places. No alignment of buffers is asked for.
  * - Any answer but 0 leaves every lent byte as it was. Only `*address`, `*place` and
- *   `*kind` are written with every answer. (lamptassel_list gives no answer's number: it
- *   prints every record, a refused one in one line.)
+ *   `*kind` are written with every answer. (lamptassel_list returns a length and not an
+ *   answer: it writes to `out` for every record, for a refused one the line that says so.)
  * - Nothing is kept after the call: no allocation, no global state, no lock. A call needs
  *   less than 4 KB of stack.
  * - Any number of threads may call at once, as long as nobody else touches a buffer during
@@ -23,7 +23,7 @@
  *   READs and VERIFYs of one segment may run at the same time, and what is only read may
  *   lie in read-only memory (a cast from const is allowed there).
  *
- * A segment is told by six numbers, in this order:
+ * Six numbers describe a segment, in this order:
  *
  *   kind      P, its type of protection: 0 (none), 1, 2 or 3
  *   block     B, the bytes of user data in a block: 8 to 4,096, a multiple of 8
@@ -126,15 +126,15 @@ enum lamptassel_sense_of_answer {
  *   0   good
  *   1   the six numbers describe no segment
  *   2   segment_length is not N * S
- *   3   the command is empty, or not as long as its operation asks
- *   4   buffer_length is not the one told above
+ *   3   the command is empty, or its length is not that of its operation
+ *   4   buffer_length is not what the command asks for (see buffer)
  *   5   the operation is not served; types 0, 1 and 3 serve no 32-byte command; type 2
- *       serves 10, 12 and 16 bytes with code 000 alone
+ *       serves commands of 10, 12 and 16 bytes only with code 000
  *   6   a field of the command is invalid: its protect code (110, 111; for type 0 any but
  *       000), the byte-check bits of a VERIFY, or byte 7 of 32
- *   7   the transfer reaches outside the segment, or a T of 0 starts there
- *   8, 9, 10  guard, application tag or reference tag of an interval is not as expected:
- *       in the first such interval, the first of these
+ *   7   address below W, or address + T above W + N, also where T is 0
+ *   8, 9, 10  guard, application tag or reference tag of an interval is not as expected;
+ *       the first such interval is named, and in it the first such field
  *   14  the transfer has more than 4,294,967,295 bytes: never reached
  * Where several apply: 1, then 2, then those of the command's own bytes (3, 5, 6, in the
  * order of document 01), then 7, then 14, then 4, then 8 to 10.
@@ -145,17 +145,17 @@ uint64_t lamptassel_execute(uint64_t kind, uint64_t block, uint64_t exponent, ui
                             uint64_t *place);
 
 /*
- * The format choice: the type of a segment, from a format command and what stands behind
- * it. Nothing is formatted.
+ * The format choice: the type of a segment, from what the unit supports, a format command
+ * and its parameter list. Nothing is formatted.
  *
  *   spt       SPT, the types that the unit supports: 0 to 7
  *   protect   PROTECT, whether it supports any: 0 or 1
- *   fmtpinfo  FMTPINFO, the format's wish: 0 to 3
+ *   fmtpinfo  FMTPINFO, the protection that the format command asks for: 0 to 3
  *   usage     the protection field usage of the parameter list: 0 to 7
  *   kind      the type, 0 to 3, with answer 0; 0 with every other answer
  *
- * Returns 0; 6 for a number out of range or a wish that the unit does not support;
- * 12 for a usage that does not go with the wish.
+ * Returns 0; 6 for a number out of range or an FMTPINFO that the unit does not support;
+ * 12 for a usage that does not go with the FMTPINFO.
  */
 uint64_t lamptassel_format_choice(uint64_t spt, uint64_t protect, uint64_t fmtpinfo, uint64_t usage, uint64_t *kind);
 
@@ -177,7 +177,7 @@ uint64_t lamptassel_fill(uint64_t kind, uint64_t block, uint64_t exponent, uint6
  * parity, has N * S bytes. Nothing is judged.
  *
  * All three return 0; 1 if the six numbers describe no segment; 11 for type 0, a k outside
- * 1 to 16, a lost number above k, or a length that is not the one told below.
+ * 1 to 16, a lost number above k, or a buffer whose length is not the one given below.
  */
 
 /*
@@ -226,7 +226,7 @@ uint64_t lamptassel_correct(uint64_t kind, uint64_t block, uint64_t exponent, ui
  */
 uint16_t lamptassel_guard(const uint8_t *data, size_t length);
 
-/* Returns the same number, worked out bit by bit: slower, for those who want a second way. */
+/* Returns the same number, worked out bit by bit: slower, and a second way to the same end. */
 uint16_t lamptassel_guard_by_division(const uint8_t *data, size_t length);
 
 /*
@@ -235,31 +235,33 @@ uint16_t lamptassel_guard_by_division(const uint8_t *data, size_t length);
  *
  *   data  the data of the intervals end to end, without fields
  *   size  the bytes of one interval, at least 1; length is a multiple of it
- *   out   where the guards go, two bytes for each interval, big-endian: exactly so many
+ *   out   where the guards go, two bytes for each interval, big-endian
  *
- * Returns 0; 4 if the three sizes do not go together so.
+ * Returns 0; 4 if size is 0, if length is not a multiple of size, or if out_length is not
+ * two for each interval.
  */
 uint64_t lamptassel_guards(const uint8_t *data, size_t length, size_t size, uint8_t *out, size_t out_length);
 
 /*
- * Writes the listing of a record: one line for each interval of its segment, with its
- * fields and whether they are right, between a header and the totals; or one line,
- * "refused 13", "refused 1" or "refused 2", for a record that is none. Each line ends with a
- * line feed; there is no zero byte at the end.
+ * Writes the listing of a record: a header, one line for each interval of its segment, with
+ * its fields and whether they are right, and the totals. For a record that is refused it is
+ * one line: "refused 13" if the record is bad, "refused 1" if it describes no segment,
+ * "refused 2" if its segment has another length than described. Each line ends with a line
+ * feed; there is no zero byte at the end.
  *
  *   input  the whole record: its length L (4 bytes, at most 65,532), then L bytes: version 1,
  *          P, e (one byte each), B (2), W (8), N (2), all big-endian, and the segment
- *   out    where the text goes; if it is too short for the listing it takes the first bytes
+ *   out    where the text goes; if it is too short, it takes the listing's first bytes
  *
- * Returns the length of the whole listing, at most 524,288, whatever fits into out. With
- * out_length 0 it only counts.
+ * Returns the length of the whole listing, at most 524,288, however much of it fits into
+ * out. With out_length 0 it only counts.
  */
 size_t lamptassel_list(const uint8_t *input, size_t input_length, uint8_t *out, size_t out_length);
 
 /*
  * Returns the sense of an answer's number: sense key, additional sense code and its
  * qualifier, two hexadecimal digits each (05/20/00 is 0x052000); 0 for an answer without
- * one and for every number that is no answer.
+ * a sense, and for a number that is not an answer's.
  */
 uint32_t lamptassel_sense(uint64_t number);
 

@@ -1,13 +1,20 @@
 /* The header as C11 and C++17 read it, against the archive: types, widths, constants, empty buffers, each answer, and
-   where there are <sys/mman.h> and <ucontext.h> what is only read and the stack. No other header than its own is asked
-   for, so that the kit's compiler, which has no C library's, compiles it too. */
+   where there are <sys/mman.h>, <ucontext.h> and <pthread.h> what is only read, threads that read it at once, and the
+   stack. No other header than its own is asked for, so that the kit's compiler, which has no C library's, compiles it
+   too. */
 #define _DEFAULT_SOURCE
 #include "lamptassel.h"
 #include "lamptassel.h"
-#if __has_include(<sys/mman.h>) && __has_include(<ucontext.h>)
+#if __has_include(<sys/mman.h>) && __has_include(<ucontext.h>) && __has_include(<pthread.h>)
+#include <pthread.h>
 #include <sys/mman.h>
 #include <ucontext.h>
 #define WITH_SYSTEM
+#endif
+#if defined(__SANITIZE_ADDRESS__) || defined(__SANITIZE_THREAD__)
+#define SANITIZED 1
+#else
+#define SANITIZED 0
 #endif
 
 #ifdef __cplusplus
@@ -319,10 +326,62 @@ static void on_page(uint8_t *segment, const uint8_t *command, uint8_t *buffer, s
     CHECK(execute(TOLD(&OF_A_PAGE), segment, PAGE, command, 10, buffer, length, &address, &place) == number);
 }
 
+static const uint8_t READ_BARE[10] = {0x28, 0, 0, 0, 0, 7, 0, 0, 1, 0};
+static const uint8_t READ_WHOLE[10] = {0x28, 0x20, 0, 0, 0, 7, 0, 0, 1, 0};
+
+/* A thread that READs and VERIFYs two segments in read-only memory, a right one and one with a wrong guard. */
+struct reader {
+    uint8_t *right, *wrong, *buffer;
+    int faults;
+};
+
+static int answers(uint8_t *segment, const uint8_t *command, uint8_t *buffer, size_t length, uint64_t number) {
+    uint64_t address, place, given;
+    given = execute(TOLD(&OF_A_PAGE), segment, PAGE, command, 10, buffer, length, &address, &place);
+    return given == number && address == (number == LAMPTASSEL_GOOD ? 0 : 7) && place == 0;
+}
+
+static void *reads(void *told) {
+    enum { ROUNDS = 500, UNTOUCHED = 0xA5 };
+    struct reader *r = (struct reader *)told;
+    for (int i = 0; i < ROUNDS; i++) {
+        memset(r->buffer, UNTOUCHED, PAGE);
+        r->faults += !answers(r->wrong, READ_WHOLE, r->buffer, PAGE, LAMPTASSEL_GUARD_CHECK_FAILED);
+        r->faults += r->buffer[0] != UNTOUCHED || memcmp(r->buffer, r->buffer + 1, PAGE - 1) != 0;
+        r->faults += !answers(r->right, READ_WHOLE, r->buffer, PAGE, LAMPTASSEL_GOOD);
+        r->faults += memcmp(r->buffer, r->right, PAGE) != 0;
+        memset(r->buffer, UNTOUCHED, PAGE);
+        r->faults += !answers(r->right, READ_BARE, r->buffer, 4088, LAMPTASSEL_GOOD);
+        r->faults += memcmp(r->buffer, r->right, 4088) != 0;
+        r->faults += !answers(r->right, VERIFY_ONE, NULL, 0, LAMPTASSEL_GOOD);
+        r->faults += !answers(r->wrong, VERIFY_ONE, NULL, 0, LAMPTASSEL_GUARD_CHECK_FAILED);
+    }
+    return NULL;
+}
+
+static void side_by_side(uint8_t *right, uint8_t *wrong) {
+    enum { THREADS = 4 };
+    struct reader readers[THREADS];
+    pthread_t threads[THREADS];
+    int begun = 0;
+    for (; begun < THREADS; begun++) {
+        readers[begun].right = right;
+        readers[begun].wrong = wrong;
+        readers[begun].buffer = page();
+        readers[begun].faults = 0;
+        if (readers[begun].buffer == NULL || pthread_create(&threads[begun], NULL, reads, &readers[begun]) != 0)
+            break;
+    }
+    CHECK(begun == THREADS);
+    while (begun-- > 0) {
+        CHECK(pthread_join(threads[begun], NULL) == 0);
+        CHECK(readers[begun].faults == 0);
+        munmap(readers[begun].buffer, PAGE);
+    }
+}
+
 /* A write to what is only read ends the test at once. */
 static void read_only_memory(void) {
-    static const uint8_t READ_BARE[10] = {0x28, 0, 0, 0, 0, 7, 0, 0, 1, 0};
-    static const uint8_t READ_WHOLE[10] = {0x28, 0x20, 0, 0, 0, 7, 0, 0, 1, 0};
     static const uint8_t WRITE_BARE[10] = {0x2A, 0, 0, 0, 0, 7, 0, 0, 1, 0};
     static const uint8_t WRITE_WHOLE[10] = {0x2A, 0x20, 0, 0, 0, 7, 0, 0, 1, 0};
     uint8_t *lent = page(), *stored = page(), *other = page();
@@ -340,6 +399,7 @@ static void read_only_memory(void) {
     on_page(stored, VERIFY_ONE, NULL, 0, LAMPTASSEL_GOOD);
     on_page(lent, READ_BARE, other, 4088, LAMPTASSEL_GUARD_CHECK_FAILED);
     on_page(lent, VERIFY_ONE, NULL, 0, LAMPTASSEL_GUARD_CHECK_FAILED);
+    side_by_side(stored, lent);
     munmap(lent, PAGE);
     munmap(stored, PAGE);
     munmap(other, PAGE);
@@ -392,7 +452,8 @@ static void stack(void) {
 int main(void) {
 #ifdef WITH_SYSTEM
     read_only_memory();
-    stack();
+    if (!SANITIZED) /* whose own frames are large */
+        stack();
 #endif
     commands();
     long_command();
