@@ -5,3 +5,4 @@ pub mod RecordLaws
 pub mod ListingLaws
 pub mod Demands
 pub mod States
+pub mod Indexed
