@@ -1,6 +1,7 @@
 -- "Answer numbers": the table's number, sense, address and place for each answer.
 use Prim.Native.Nat.{ℕ}
-use mathlib.Core.Bool.{Bool, true, false, cond}
+use mathlib.Core.Bool.{Bool, true, false, _||_, cond}
+use mathlib.Core.List.{List, [], _∷_}
 use lib.Dec.{eqb}
 use Rattle.answer.specs.declared.Answer.{Answer}
 use Rattle.answer.specs.declared.Answer.the-variants.{Good, Description, Segment, CommandLength, BufferLength, Operation, Field, Address, Guard, Application, Reference, Stripe, Parameter, Listing, Size}
@@ -89,3 +90,26 @@ senseNumbered n =
 
 abbrev pub senseOf : Answer → ℕ
 senseOf a = senseNumbered (numberOf a)
+
+-- "| no. | meaning | sense |", row by row: the number, and its sense, 0 where the table has none
+pub record Row : Type 0 where
+  pub number : ℕ
+  pub sense : ℕ
+
+abbrev row : ℕ → ℕ → Row
+row n s = record { number = n; sense = s }
+
+abbrev pub table : List Row
+table =
+    row 0 0 ∷ row 1 0 ∷ row 2 0 ∷ row 3 0 ∷ row 4 0
+    ∷ row 5 0x05_20_00 ∷ row 6 0x05_24_00 ∷ row 7 0x05_21_00
+    ∷ row 8 0x0B_10_01 ∷ row 9 0x0B_10_02 ∷ row 10 0x0B_10_03
+    ∷ row 11 0 ∷ row 12 0x05_26_00 ∷ row 13 0 ∷ row 14 0 ∷ []
+
+-- whether a number is one of the table's
+abbrev pub isNumberIn : List Row → ℕ → Bool
+isNumberIn [] n = false
+isNumberIn (r ∷ rs) n = eqb n (r .number) || isNumberIn rs n
+
+abbrev pub inTable : ℕ → Bool
+inTable n = isNumberIn table n

@@ -1,2 +1,3 @@
 pub mod Laws
 pub mod Coincide
+pub mod Places

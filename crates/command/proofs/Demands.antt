@@ -15,7 +15,7 @@ use Rattle.command.specs.declared.Named.{Named}
 use Rattle.command.specs.declared.Named.the-variants.{Known, Unknown}
 use Rattle.command.specs.declared.Decoded.the-variants.{Served, Refused}
 use Rattle.command.specs.Command.{layoutOf, isLong, find, byteZero, serviceAction, recognise, fields, decodeAs, decode}
-use Rattle.command.specs.Bits.{SameAt, SameColumns}
+use Rattle.command.specs.Bits.{SameAt, SameColumns, SameCommand}
 use Rattle.command.proofs.Laws.{decode-known, decode-unknown}
 
 same-number : (at n : ℕ) (c c′ : List ℕ) → SameAt at n c c′ → numberAt at n c ≡ numberAt at n c′
@@ -79,3 +79,14 @@ not-served-alike c c′ e n = by (recognise c) refl
     by : (x : Named) → recognise c ≡ x → decode c ≡ decode c′
     by (Known o f) k = absurd (n o f k)
     by (Unknown a) k = decode-unknown c k ∙ sym (decode-unknown c′ (sym e ∙ k))
+
+-- both in one: such commands are read alike
+pub same-command : (c c′ : List ℕ) → SameCommand c c′ → decode c ≡ decode c′
+same-command c c′ s = by (recognise c) refl
+  where
+    alike : recognise c ≡ recognise c′
+    alike = same-operation c c′ (s .long) (s .zeroth) (λ e. s .action (s .zeroth ∙ e))
+
+    by : (x : Named) → recognise c ≡ x → decode c ≡ decode c′
+    by (Known o f) k = no-other-bit c c′ o f k (sym alike ∙ k) (s .columns o f k)
+    by (Unknown a) k = decode-unknown c k ∙ sym (decode-unknown c′ (sym alike ∙ k))

@@ -6,7 +6,8 @@ use mathlib.Core.Path.{_≡_}
 use lib.ListN.{length, getD, take, drop}
 use Rattle.command.specs.declared.Operation.{Operation}
 use Rattle.command.specs.declared.Form.{Form}
-use Rattle.command.specs.Command.{layoutOf, isLong, checkBits}
+use Rattle.command.specs.declared.Named.the-variants.{Known}
+use Rattle.command.specs.Command.{recognise, layoutOf, isLong, checkBits}
 
 -- n bytes from `at` on are the same in two commands
 abbrev pub SameAt : ℕ → ℕ → List ℕ → List ℕ → Type 0
@@ -24,3 +25,11 @@ pub record SameColumns (o : Operation) (f : Form) (c c′ : List ℕ) : Type 0 w
   pub tag : isLong f ≡ true → SameAt 20 4 c c′
   pub application : isLong f ≡ true → SameAt 24 2 c c′
   pub mask : isLong f ≡ true → SameAt 26 2 c c′
+
+-- two commands, served or not, that may differ only in bits of which the table says nothing: as long, the same in byte 0, for
+-- 7Fh in the service action, and in the columns of the operation and form that these name
+pub record SameCommand (c c′ : List ℕ) : Type 0 where
+  pub long : length c ≡ length c′
+  pub zeroth : getD c 0 0 ≡ getD c′ 0 0
+  pub action : getD c 0 0 ≡ 0x7F → SameAt 8 2 c c′
+  pub columns : (o : Operation) (f : Form) → recognise c ≡ Known o f → SameColumns o f c c′

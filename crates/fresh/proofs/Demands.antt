@@ -27,6 +27,7 @@ use Rattle.judge.proofs.FirstLaws.{first-good}
 use Rattle.judge.proofs.BlockLaws.{block-escaped}
 use Rattle.blocks.specs.Blocks.{stripped}
 use Rattle.checks.specs.Checks.{escapeOf, rulesOf, startOf}
+use Rattle.checks.specs.Intervals.{intervalAt, skipped}
 use Rattle.format.specs.Fresh.{freshIntervals, filledOf}
 use Rattle.admission.specs.declared.Admitted.the-variants.{Go}
 use Rattle.admission.specs.Admission.{isVerify, movedOf, bufferOf, refusal, admitted}
@@ -35,7 +36,6 @@ use Rattle.admission.proofs.Rules.{inside, moved-plain, moved-whole, moved-most
 use Rattle.admission.proofs.Ready.{admitted-ready}
 use Rattle.transfer.specs.Transfer.{blocksOf, judgedIn, judgedFor, judged, handed, performedFor, performed, executed}
 use Rattle.transfer.proofs.Shapes.{moved-flat, whole-not, handed-parted, judged-fields}
-use Rattle.transfer.specs.Checked.{intervalAt, skipped}
 use Rattle.fresh.specs.Allowed.{Allowed}
 use Rattle.fresh.proofs.Runs.{field-at, zeros}
 use Rattle.fresh.proofs.Filled.{fresh-blocks, filled-segment, filled-facts, filled-fresh, filled-length}

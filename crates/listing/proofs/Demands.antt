@@ -1,5 +1,5 @@
--- What is asked of a listing: its last line counts its own lines; there is one line for each interval; a line is faulty exactly
--- where READ's judging finds a fault. Assumes nothing.
+-- What is asked of a listing: its last line counts its own lines; there is one line for each interval; no line is faulty
+-- exactly where judging the whole finds no fault (line by line: `Indexed`). Assumes nothing.
 use mathlib.Core.Path.{_≡_, refl, sym, ap, _∙_}
 use mathlib.Core.Logic.{_↔_}
 use mathlib.Core.Bool.{Bool, true, false, _&&_, cond, true≢false}
@@ -43,7 +43,7 @@ lines-all d s g long n =
 pub lines-plain : (d : Description) (s : List ℕ) → Segment d → lengthOf d ≡ length s → d .kind ≡ 0 → length (linesOf d s) ≡ 0
 lines-plain d s g long e = ap length (lines-none d s g long e)
 
--- ---- faulty lines are where judging finds a fault
+-- ---- no line is faulty where judging finds no fault
 none-of-two : (a b : ℕ) → (a + b ≡ 0) ↔ ((a ≡ 0) × (b ≡ 0))
 none-of-two a b = (λ e. (omega arith, omega arith), λ two. omega (arith, two .0, two .1))
 
@@ -67,7 +67,7 @@ module _ (r : Rules) (plain : r .application ≡ false) where
   unfolding applicationWrong
   not-applied f = and-false (r .application) _ plain
 
-  fault-interval : (p : Place) (s : List ℕ) → (judgeInterval r p s ≡ answers.Good) ↔ (faulty (worded (judgeInterval r p s)) ≡ 0)
+  pub fault-interval : (p : Place) (s : List ℕ) → (judgeInterval r p s ≡ answers.Good) ↔ (faulty (worded (judgeInterval r p s)) ≡ 0)
   unfolding judgeInterval judgePieces
   fault-interval p s = rw (not-applied (fieldOf (r .size) s)) (fault (p .address) (p .interval) (guardWrong r (dataOf (r .size) s) (fieldOf (r .size) s)) (referenceWrong r p (fieldOf (r .size) s)))
 
@@ -98,11 +98,11 @@ module _ (r : Rules) (plain : r .application ≡ false) where
       both-ways (orElse-good (judgeBlock r p s) _) (rw count-append (none-of-two _ _)) (fault-block p s)
       (faults-blocks k (nextBlock (r .intervals) p) (drop (r .intervals * (r .size + 8)) s))
 
-read-plain : (d : Description) → rulesOf d (readAll d) .application ≡ false
+pub read-plain : (d : Description) → rulesOf d (readAll d) .application ≡ false
 unfolding rulesOf readAll columnsOf applicationKnown
 read-plain d = refl
 
--- a READ (16) with code 001 of the whole segment is judged good exactly where no line is faulty
+-- the whole segment, judged with what code 001 of a 16-byte READ checks, is good exactly where no line is faulty
 pub faults-are-judged : (d : Description) (s : List ℕ) → Segment d → lengthOf d ≡ length s → (d .kind ≡ 0 → ⊥)
     → (judgeBlocks (rulesOf d (readAll d)) (d .count) (startOf d (readAll d)) s ≡ answers.Good) ↔ (countOf faulty (linesOf d s) ≡ 0)
 faults-are-judged d s g long n =

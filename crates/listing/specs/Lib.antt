@@ -1,3 +1,4 @@
 pub mod Lines
 pub mod Record
 pub mod Listing
+pub mod Indexed

@@ -17,7 +17,8 @@ use Rattle.listing.specs.declared.Line.{Line}
 use Rattle.listing.specs.Lines.{blockLines, linesText, headerText, totalText}
 use Rattle.listing.specs.Record.{recordAnswer, describedBy, segmentIn}
 
--- The states are those of a READ (16) of the whole segment with code 001: the guard is checked, and in type 1 the reference.
+-- The states are those of judging with what code 001 of a 16-byte READ of the whole segment checks: the guard, and in type 1 the
+-- reference. The type rules are not applied: in type 2 such a command itself would be answered 5.
 unfoldable pub readAll : Description → Command
 readAll d =
     record {

@@ -305,7 +305,8 @@ fn print_refused(out: &mut [u8], a: Answer) -> usize
     text::decimal_then(out, at, answer::number(a), 0x0A)
 }
 
-// The command whose judging gives the states: a READ (16) of the whole segment with code 001.
+// What the states are judged by: what code 001 of a 16-byte READ of the whole segment checks. The type rules are not applied: in
+// type 2 such a command itself would be answered 5.
 fn read_all(d: Description) -> Command
     requires { ⌜ Segment d ⌝ }
     ensures { λ c. ⌜ c ≡ readAll d ⌝ }

@@ -30,7 +30,7 @@ use Rattle.blocks.specs.Blocks.{fieldBytes, withField, later, storedBlock, stor
 use Rattle.blocks.proofs.Laws.{field-length, interval-length, block-length, interval-read-on, interval-field-on, guard-there, application-there, reference-there}
 use Rattle.checks.specs.Checks.{columnsOf, applicationKnown, referenceKnown, firstTag, escapeOf, rulesOf, startOf}
 use Rattle.checks.specs.Inserted.{insertedApplication, insertedReference, marksOf}
-use Rattle.transfer.specs.Checked.{intervalAt, placeAt, skipped, verdictAt}
+use Rattle.checks.specs.Intervals.{intervalAt, placeAt, skipped, verdictAt}
 use Rattle.transfer.specs.Compared.{asRead}
 use Rattle.transfer.proofs.Wrong.{blocks-good}
 

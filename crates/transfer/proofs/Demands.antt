@@ -4,19 +4,21 @@ use mathlib.Core.Path.{_≡_, refl, sym, ap, _∙_}
 use mathlib.Core.Logic.{_↔_, ⊎-elim}
 use mathlib.Core.Bool.{Bool, true, false, not, _&&_, cond, true≢false}
 use mathlib.Core.List.{List}
-use Prim.Native.Nat.{ℕ, _+_, _*_, _%_, _^_, _≤_, _<_}
-use native.Mathlib.Nat.{mod-lt, le-of-eq}
+use Prim.Native.Nat.{ℕ, _+_, _*_, _^_, _≤_, _<_}
+use native.Mathlib.Nat.{le-of-eq}
 use native.Mathlib.Omega.{arith}
 use borrow.Author.Tests.{eqb-true, eqb-false, le-leb}
-use lib.Dec.{eqb, leb, lit<, lit≤}
+use lib.Dec.{eqb, leb}
 use lib.ListN.{length}
 use Rattle.words.specs.Parts.{Bytes}
-use Rattle.answer.specs.Answer.{numberOf, isGood}
+use Rattle.answer.specs.Answer.{numberOf, isGood, inTable}
 use Rattle.answer.specs.declared.Answer.{Answer}
 use Rattle.answer.specs.declared.Answer.the-variants as answers
+use Rattle.answer.proofs.Demands.{in-table}
 use Rattle.segment.specs.declared.Description.{Description}
 use Rattle.segment.specs.Segment.{isSegment, intervalsOf, sizeOf, lengthOf}
 use Rattle.command.specs.Command.{decode}
+use Rattle.command.specs.Bits.{SameCommand}
 use Rattle.command.specs.declared.Command.{Command}
 use Rattle.command.specs.declared.Decoded.{Decoded}
 use Rattle.command.specs.declared.Decoded.the-variants.{Served}
@@ -24,11 +26,14 @@ use Rattle.command.specs.declared.Decoded.the-variants as decoded
 use Rattle.command.specs.declared.Operation.{Operation}
 use Rattle.command.specs.declared.Operation.the-variants.{Read, Write, Verify}
 use Rattle.command.proofs.Laws.{Bounded, served-bounded}
+use Rattle.command.proofs.Demands.{same-command}
 use Rattle.judge.specs.FirstOf.{firstOf}
 use Rattle.judge.specs.Judge.{dataOf, fieldOf, guardWrong, applicationWrong, referenceWrong, judgeInterval, judgeBlocks}
 use Rattle.judge.proofs.FirstLaws.{good-or}
 use Rattle.judge.specs.Verdict.{Verdict}
 use Rattle.checks.specs.Checks.{rulesOf, startOf, firstTag}
+use Rattle.checks.specs.Intervals.{intervalAt, placeAt, verdictAt}
+use Rattle.checks.proofs.Places.{tag-small}
 use Rattle.admission.specs.declared.Admitted.{Admitted}
 use Rattle.admission.specs.declared.Admitted.the-variants.{Refused, Go}
 use Rattle.admission.specs.Admission.{typeRules, codeRule, checkRule, rangeRule, sizeRule, isVerify, movedOf, bufferOf, bufferRule, refusal, admitDecoded, admitted}
@@ -37,28 +42,11 @@ use Rattle.admission.proofs.Ready.{admitted-ready}
 use Rattle.transfer.specs.Transfer.{Outcome, outcome, blocksOf, whole, judgedIn, judgedFor, judged, handed, received, overwritten, performedFor, performed, executedAs, executed}
 use Rattle.transfer.specs.Compared.{Alike, Beside, asRead}
 use Rattle.transfer.proofs.Shapes.{whole-code, whole-not, received-whole, judged-plain, judged-fields}
-use Rattle.transfer.specs.Checked.{underCheck, checkedBlocks, intervalAt, placeAt, verdictAt, FirstWrongInterval, forProtection, WrongInterval}
+use Rattle.transfer.specs.Checked.{underCheck, checkedBlocks, FirstWrongInterval, forProtection, WrongInterval}
 use Rattle.transfer.proofs.Wrong.{blocks-good, blocks-wrong, interval-verdict}
 use Rattle.transfer.proofs.Accepted.{inserted-accepted, received-accepted}
 use Rattle.transfer.proofs.InOrder.{not-in-order-names-no-interval}
 use Rattle.transfer.proofs.Stored.{enough, inserted, beside-itself, overwritten-beside, overwritten-there, handed-back, same-blocks}
-
-in-table : (a : Answer) → numberOf a ≤ 14
-in-table answers.Good = lit≤ tt
-in-table answers.Description = lit≤ tt
-in-table answers.Segment = lit≤ tt
-in-table answers.CommandLength = lit≤ tt
-in-table answers.BufferLength = lit≤ tt
-in-table answers.Operation = lit≤ tt
-in-table answers.Field = lit≤ tt
-in-table answers.Address = lit≤ tt
-in-table (answers.Guard a p) = lit≤ tt
-in-table (answers.Application a p) = lit≤ tt
-in-table (answers.Reference a p) = lit≤ tt
-in-table answers.Stripe = lit≤ tt
-in-table answers.Parameter = lit≤ tt
-in-table answers.Listing = lit≤ tt
-in-table answers.Size = lit≤ tt
 
 -- ---- what an operation leaves alone, and what it does
 module _ (a : Answer) (d : Description) (c : Command) (segment buffer : List ℕ) where
@@ -135,7 +123,7 @@ settled false false false c r e = e
 
 module _ (d : Description) (segment command buffer : List ℕ) where
   -- every input gets an answer of the table
-  pub one-answer : numberOf (executed d segment command buffer .answer) ≤ 14
+  pub one-answer : inTable (numberOf (executed d segment command buffer .answer)) ≡ true
   one-answer = in-table (executed d segment command buffer .answer)
 
   -- "Any answer but 0 changes no lent byte": a refused READ leaves the buffer, a refused WRITE the segment
@@ -229,6 +217,12 @@ own-blocks-alone d s s′ command buffer buffer′ c served n l m e =
     by (Refused a) t = record { answer = refl; filled = λ r g. absurd (true≢false (sym g ∙ t)) }
     by (Go k) t = rw t (performed-alike d c s s′ buffer buffer′ e n)
 
+-- "No other bit changes an answer.": commands that differ in no bit of the table's have one outcome, the answer with its
+-- numbers and every lent byte, on every segment and buffer
+pub no-other-bit : (d : Description) (segment c c′ buffer : List ℕ) → SameCommand c c′ → executed d segment c buffer ≡ executed d segment c′ buffer
+unfolding executed admitted
+no-other-bit d segment c c′ buffer s = rw (same-command c c′ s) refl
+
 -- a READ after a WRITE of the same blocks, both good
 module _ (d : Description) (segment writing buffer reading out : List ℕ) (w k : Command)
     (writes : decode writing ≡ Served w) (is-write : w .operation ≡ Write) (good-write : isGood (executed d segment writing buffer .answer) ≡ true)
@@ -269,15 +263,6 @@ pub in-order-served : (d : Description) (segment : ℕ) (command : List ℕ) (bu
 unfolding admitted
 in-order-served d segment command buffer c =
     served-when c d buffer (not (isSegment d)) (not (eqb segment (lengthOf d))) (decode command)
-
--- the first tag is one of four bytes
-tag-small : (d : Description) (c : Command) → c .tag < 2 ^ 32 → firstTag d c < 2 ^ 32
-unfolding firstTag
-tag-small d c h = by (eqb (d .kind) 1)
-  where
-    by : (b : Bool) → cond b (c .address % 2 ^ 32) (c .tag) < 2 ^ 32
-    by true = mod-lt (c .address) (lit< tt)
-    by false = h
 
 -- what is judged: the blocks under check, none where nothing is
 pick-none : (b : Bool) (d : Description) (c : Command) (s : List ℕ)

@@ -32,9 +32,9 @@ use Rattle.blocks.proofs.Laws.{field-length, interval-length, block-length, int
 use Rattle.blocks.proofs.Pieces.{one-within, rest-within, one-more}
 use Rattle.checks.specs.Checks.{firstTag}
 use Rattle.checks.specs.Inserted.{insertedReference, marksOf}
+use Rattle.checks.specs.Intervals.{intervalAt}
 use Rattle.admission.specs.Ready.{Ready}
 use Rattle.transfer.specs.Transfer.{blocksOf, received, executed}
-use Rattle.transfer.specs.Checked.{intervalAt}
 use Rattle.transfer.specs.Inserted.{insertedReferenceAt, userDataAt, InsertedAt}
 use Rattle.transfer.proofs.Shapes.{whole-not}
 use Rattle.transfer.proofs.Accepted.{small-application, small-reference}

@@ -26,12 +26,13 @@ use Rattle.judge.specs.FirstOf.{firstOf}
 use Rattle.judge.specs.Judge.{judgeBlocks}
 use Rattle.blocks.specs.Blocks.{stripped}
 use Rattle.checks.specs.Checks.{rulesOf, startOf}
+use Rattle.checks.specs.Intervals.{verdictAt}
 use Rattle.admission.specs.declared.Admitted.the-variants.{Go}
 use Rattle.admission.specs.Admission.{isVerify, movedOf, admitted}
 use Rattle.admission.proofs.Rules.{room-moved}
 use Rattle.admission.proofs.Ready.{admitted-ready}
 use Rattle.transfer.specs.Transfer.{Outcome, outcome, offsetOf, spanOf, blocksOf, whole, handed, executed}
-use Rattle.transfer.specs.Checked.{underCheck, checkedBlocks, verdictAt}
+use Rattle.transfer.specs.Checked.{underCheck, checkedBlocks}
 use Rattle.transfer.specs.Compared.{Beside}
 use Rattle.transfer.proofs.Shapes.{whole-not, handed-parted, received-whole}
 use Rattle.transfer.proofs.Demands.{good-in-order, in-order-served, performed-answer, write-or-verify-leaves-buffer, good-write-keeps-other-blocks, good-write-stores, good-read-hands-out, good-exactly-when-all-right}

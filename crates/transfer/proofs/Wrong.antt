@@ -4,9 +4,8 @@ use mathlib.Core.Path.{_≡_, refl, sym, ap, _∙_}
 use mathlib.Core.Logic.{_↔_}
 use mathlib.Core.Bool.{Bool, true, false, cond, true≢false}
 use mathlib.Core.List.{List}
-use Prim.Native.Nat.{ℕ, _+_, _*_, _%_, _^_, _<_}
-use native.Mathlib.Nat.{mod-lt, mod-add-mod, add-assoc, zero-add}
-use lib.Dec.{lit<, lit≤}
+use Prim.Native.Nat.{ℕ, _+_, _*_, _^_, _<_}
+use lib.Dec.{lit≤}
 use Rattle.answer.specs.Answer.{isGood}
 use Rattle.answer.specs.declared.Answer.{Answer}
 use Rattle.answer.specs.declared.Answer.the-variants as answers
@@ -20,9 +19,10 @@ use Rattle.judge.specs.Verdict.{Verdict}
 use Rattle.judge.specs.Judge.{dataOf, fieldOf, guardWrong, applicationWrong, referenceWrong, judgePieces, judgeInterval, judgeIntervals, judgeBlock, judgeBlocks, nextInterval, nextBlock}
 use Rattle.judge.proofs.FirstLaws.{after, pieceAt, first-good, first-found, FirstWrong, not-both}
 use Rattle.judge.proofs.PieceLaws.{pieces-verdict}
-use Rattle.judge.proofs.PlaceLaws.{place-after-interval, place-after-block}
 use Rattle.checks.specs.Checks.{rulesOf, startOf, firstTag}
-use Rattle.transfer.specs.Checked.{blockAt, intervalAt, placeAt, skipped, verdictAt, Names, FirstWrongInterval}
+use Rattle.checks.specs.Intervals.{blockAt, intervalAt, placeAt, skipped, verdictAt}
+use Rattle.checks.proofs.Places.{place-is}
+use Rattle.transfer.specs.Checked.{Names, FirstWrongInterval}
 
 -- ---- one interval
 abbrev inTurn : Place → Bool → Bool → Bool → Answer
@@ -55,18 +55,9 @@ module _ (d : Description) (c : Command) (s : List ℕ) (small : firstTag d c < 
   abbrev reached : ℕ → Place
   reached j = after (nextBlock (intervalsOf d)) j (startOf d c)
 
-  place-is : (j i : ℕ) → after nextInterval i (reached j) ≡ placeAt d c j i
-  unfolding startOf
-  place-is j i =
-      let n = intervalsOf d in
-      let p : Place = record { address = c .address + j; interval = 0 + j * n; tag = (firstTag d c + j * n) % 2 ^ 32 } in
-      let tags : ((firstTag d c + j * n) % 2 ^ 32 + i) % 2 ^ 32 ≡ (firstTag d c + (j * n + i)) % 2 ^ 32 = mod-add-mod (firstTag d c + j * n) (2 ^ 32) i ∙ ap (λ (x : ℕ). x % 2 ^ 32) (add-assoc (firstTag d c) (j * n) i) in
-      ap (after nextInterval i) (place-after-block n j (startOf d c) small)
-      ∙ place-after-interval i p (mod-lt (firstTag d c + j * n) (lit< tt)) ∙ rw (zero-add, tags) refl
-
   piece-is : (j i : ℕ) → pieceAt (judgeInterval (rulesOf d c)) nextInterval (sizeOf d + 8) (reached j) (blockAt d s j) i
       ≡ judgeInterval (rulesOf d c) (placeAt d c j i) (intervalAt d s j i)
-  piece-is j i = ap (λ (p : Place). judgeInterval (rulesOf d c) p (intervalAt d s j i)) (place-is j i)
+  piece-is j i = ap (λ (p : Place). judgeInterval (rulesOf d c) p (intervalAt d s j i)) (place-is d c small j i)
 
   abbrev inBlock : ℕ → Answer
   inBlock j = firstOf (judgeInterval (rulesOf d c)) nextInterval (sizeOf d + 8) (intervalsOf d) (reached j) (blockAt d s j)
