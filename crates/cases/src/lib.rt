@@ -1,1 +1,1 @@
-// The starred cases are in specs/Cases.antt; no code stands on them.
+// The starred cases are in specs/Cases.antt; no code uses them.

@@ -157,7 +157,7 @@ fn inserted_reference(d: Description, c: Command) -> u32
     0
 }
 
-// What goes into the fields of a WRITE that brings none.
+// What a WRITE with code 000, which brings no fields, puts into them.
 pub fn marks(d: Description, c: Command) -> Marks
     requires { ⌜ Segment d ⌝ }
     ensures { λ r. ⌜ r ≡ marksOf d c ⌝ }

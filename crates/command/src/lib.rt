@@ -1,4 +1,4 @@
-// A command's bytes to what it asks, by value, or the refusal.
+// From a command's bytes to what it asks for, by value; or the refusal.
 ghost use mathlib.Core.Path.{_≡_};
 ghost use Prim.Native.Nat.{_≤_};
 ghost use lib.ListN.{length};
@@ -150,7 +150,7 @@ fn check_bits(o: Operation, protects: u8) -> u8
     }
 }
 
-// What the command asks, of bytes that are as many as its form has.
+// What the command asks for, given as many bytes as its form has.
 fn parsed(o: Operation, f: Form, c: &[u8]) -> Command
     requires { ⌜ length (now c) ≡ layoutOf f .bytes ⌝ }
     ensures { λ r. ⌜ r ≡ fields o f (now (c .entry)) ⌝ }
@@ -203,7 +203,7 @@ fn decoded_as(o: Operation, f: Form, c: &[u8]) -> Decoded
     Decoded::Served(parsed(o, f, c))
 }
 
-// What a command's bytes ask, or the refusal: any bytes, from none on.
+// What a command's bytes ask for, or the refusal. Any bytes may be handed in, also no byte at all.
 pub fn decoded_from(c: &[u8]) -> Decoded
     ensures { λ r. ⌜ r ≡ decode (now (c .entry)) ⌝ }
 {

@@ -1,1 +1,1 @@
-// What holds of fresh segments is in proofs/Demands.antt; no code stands on it.
+// What holds of fresh segments is in proofs/Demands.antt; no code uses it.

@@ -363,7 +363,7 @@ fn fill_guards(t: &[u16; 256], data: &[u8], size: usize, count: usize, out: &mut
 }
 
 // The guards of the intervals of `size` bytes that `data` is made of, two bytes each, big-endian, into `out`.
-// False, and `out` as it was, where `data` is no whole number of intervals or `out` has not two bytes for each.
+// False, with `out` as it was, if `size` is 0, `data` is not a whole number of intervals, or `out` does not have two bytes for each.
 pub fn guards(data: &[u8], size: usize, out: &mut [u8]) -> bool
     ensures { λ r. ⌜ filled r (now (out .exit)) ≡ guards (now («data» .entry)) size (now (out .entry)) ⌝ }
 {

@@ -81,7 +81,7 @@ fn guard_wrong(t: &[u16; 256], r: Rules, data: &[u8], field: &[u8]) -> bool
     false
 }
 
-// Whether the application tag is checked and is another than expected where the mask has ones.
+// Whether the application tag is checked and differs from the expected one where the mask has ones.
 fn application_wrong(r: Rules, field: &[u8]) -> bool
     requires { ⌜ length (now field) ≡ 8 ⌝ }
     ensures { λ w. ⌜ w ≡ applicationWrong r (now (field .entry)) ⌝ }
@@ -92,7 +92,7 @@ fn application_wrong(r: Rules, field: &[u8]) -> bool
     false
 }
 
-// Whether the reference tag is checked and is another than expected at the place.
+// Whether the reference tag is checked and differs from the one expected at this place.
 fn reference_wrong(r: Rules, p: Place, field: &[u8]) -> bool
     requires { ⌜ length (now field) ≡ 8 ⌝ }
     ensures { λ w. ⌜ w ≡ referenceWrong r p (now (field .entry)) ⌝ }
@@ -144,7 +144,7 @@ pub fn next_block(n: usize, p: Place) -> Place
     }
 }
 
-// The first wrong one of the intervals of a block.
+// The first wrong interval of a block.
 fn judge_intervals(t: &[u16; 256], r: Rules, p: Place, s: &[u8]) -> Answer
     requires { ⌜ Right (now t) ⌝ }
     requires { ⌜ Run r 1 p (now s) ⌝ }

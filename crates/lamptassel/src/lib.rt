@@ -175,8 +175,8 @@ pub extern "C" fn lamptassel_guard_by_division(data: &[u8]) -> u16
 }
 
 // The guards of the intervals of `size` bytes that `data` is made of, two bytes each, big-endian, into `out`: one call for
-// many intervals. Answers 0; or 4, and `out` as it was, where `data` is no whole number of intervals of at least one byte
-// or `out` has not exactly two bytes for each.
+// many intervals. Answers 0; or 4, with `out` as it was, if `size` is 0, `data` is not a whole number of intervals, or
+// `out` does not have exactly two bytes for each.
 #[no_mangle]
 pub extern "C" fn lamptassel_guards(data: &[u8], size: usize, out: &mut [u8]) -> u64
     ensures { λ r. ⌜ GuardsAnswered (now («data» .entry)) size (now (out .entry)) r (now (out .exit)) ⌝ }

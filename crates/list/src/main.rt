@@ -4,7 +4,7 @@ ghost use lib.ListN.{length};
 use libc::STDIN_FILENO;
 use libc::STDOUT_FILENO;
 
-// Room for one byte more than the largest record has: an input that is longer is refused as one of that length is.
+// Room for one byte more than the largest record: a longer input is refused in the same way as one of that length.
 fn record() -> [u8; 65537]
     ensures { λ r. ⌜ 65537 ≡ length r ⌝ }
 {

@@ -41,7 +41,7 @@ recordAnswer input =
     (cond (not (isSegment (describedBy input))) answers.Description
     (cond (not (eqb (length (segmentIn input)) (lengthOf (describedBy input)))) answers.Segment answers.Good))
 
--- the frame as facts
+-- a record that is not bad, as facts
 pub record Framed (input : List ℕ) : Type 0 where
   pub start : 4 ≤ length input
   pub most : numberAt 0 4 input ≤ 65532

@@ -229,7 +229,7 @@ fn print_blocks(
     now
 }
 
-// Whether the record's frame is none.
+// Whether the record is bad (answer 13): its length L, the bytes that follow, or its version.
 fn frame_bad(input: &[u8]) -> bool
     ensures { λ r. ⌜ r ≡ frameBad (now (input .entry)) ⌝ }
 {

@@ -12,7 +12,7 @@ pub struct Description {
     pub ato: u64,
 }
 
-// Whether the description is one of a segment.
+// Whether the numbers describe a segment.
 pub fn fit(d: Description) -> bool
     ensures { λ r. ⌜ r ≡ isSegment d ⌝ }
 {

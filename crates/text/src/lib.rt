@@ -70,7 +70,7 @@ fn decimal_in(out: &mut [u8], at: usize, k: usize, n: u64) -> usize
     put(out, end, digit(n % 10))
 }
 
-// A number as few digits as it has.
+// A number, in as few digits as it needs.
 pub fn decimal(out: &mut [u8], at: usize, n: u64) -> usize
     requires { ⌜ at + 20 ≤ 2 ^ 32 ⌝ }
     ensures { λ r. ⌜ Written (decimal n) at (now (out .entry)) r (now (out .exit)) ⌝ }

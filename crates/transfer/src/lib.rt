@@ -14,7 +14,7 @@ use command::Command;
 use command::Operation;
 use segment::Description;
 
-// Whether blocks are moved whole: with their fields, or in type 0, which has none.
+// Whether blocks are moved whole: with their fields, or of type 0, which has no fields.
 fn moved_whole(d: Description, c: Command) -> bool
     ensures { λ r. ⌜ r ≡ whole d c ⌝ }
 {

@@ -107,7 +107,7 @@ fn refusals() {
 }
 
 fn writes() {
-    // M's third block: its application tag FFFFh is no escape for incoming data
+    // M's third block: its application tag FFFFh is not an escape in incoming data
     on_m(
         b"WRITE (10) of M's third block to 9, code 001",
         b"\x2a\x20\x00\x00\x00\x09\x00\x00\x01\x00",
