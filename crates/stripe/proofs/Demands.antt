@@ -9,14 +9,13 @@ use Prim.Native.Nat.{ℕ, zero, suc, _+_, _*_, _≤_, _<_}
 use native.Mathlib.Nat.{add-mul, mul-assoc}
 use native.Mathlib.Numerals.{add-one}
 use native.Mathlib.Omega.{arith}
-use borrow.Author.Tests.{eq-eqb}
 use lib.Bits.{bitXor, xor-zero-l, xor-self}
 use lib.Dec.{T-not, eqb, eqb→eq}
 use lib.ListN.{length, drop, length-drop}
 use Rattle.words.specs.Parts.{Bytes, put}
 use Rattle.words.specs.Xor.{xors}
 use Rattle.words.proofs.BitXor.{xor-cancel}
-use Rattle.words.proofs.Parts.{put-length}
+use Rattle.words.proofs.Parts.{put-length, drop-bytes}
 use Rattle.words.proofs.Xor.{xors-drop, xors-length, xors-cancel}
 use Rattle.guard.specs.Guard.{guard}
 use Rattle.judge.specs.Judge.{dataOf, fieldOf, storedGuard}
@@ -25,13 +24,13 @@ use Rattle.answer.specs.declared.Answer.the-variants as answers
 use Rattle.segment.specs.declared.Description.{Description}
 use Rattle.segment.specs.Segment.{Segment, isSegment, intervalsOf, sizeOf, storedOf, lengthOf}
 use Rattle.segment.proofs.Laws.{stored-intervals}
-use Rattle.stripe.specs.Stripe.{part, xorParts, parityOf, rebuiltOf, correctedOf, Striped, striped, stripedOf, members, makeAnswered, rebuildAnswered, correctAnswered}
+use Rattle.stripe.specs.Stripe.{part, parityOf, rebuiltOf, correctedOf, Striped, striped, stripedOf, makeAnswered, rebuildAnswered, correctAnswered}
 use Rattle.stripe.specs.Fit.{Making, Rebuilding, Correcting}
 use Rattle.stripe.specs.Error.{errorAt, memberError, beginOf, errorIn, xorOver}
 use Rattle.stripe.proofs.Sums.{by-side, member-part, parity-part, any-part, all-but-one, others-only, parityOf-length, rebuiltOf-length, ends, part-length, put-part, put-other}
 use Rattle.stripe.proofs.Ladder.{same}
 use Rattle.stripe.proofs.Fits.{not-zero, make-is, make-only, rebuild-is, rebuild-only, correct-is, correct-only}
-use Rattle.stripe.proofs.Errors.{error-xors, drop-bytes, over-zero, over-one, of-parity}
+use Rattle.stripe.proofs.Errors.{error-xors, over-zero, over-one, of-parity}
 
 -- ---- guard errors
 
