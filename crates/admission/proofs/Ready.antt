@@ -1,12 +1,13 @@
 -- What admission has settled of a command that goes on.
 -- Assumes nothing.
-use mathlib.Core.Path.{_≡_, refl, sym, ap, subst, _∙_}
+use mathlib.Core.Path.{_≡_, refl, sym, ap, _∙_}
 use mathlib.Core.Bool.{Bool, true, false, not, _&&_, _||_, cond}
 use mathlib.Core.List.{List}
 use Prim.Native.Nat.{ℕ, _+_, _≤_}
 use native.Mathlib.Omega.{arith}
 use borrow.Author.Tests.{ltb-false, eqb-true, not-false}
-use lib.Dec.{T, ltb, eqb}
+use lib.Dec.{ltb, eqb}
+use Rattle.words.proofs.Choice.{never}
 use Rattle.answer.specs.Answer.{isGood, orElse}
 use Rattle.answer.specs.declared.Answer.{Answer}
 use Rattle.answer.specs.declared.Answer.the-variants as answers
@@ -19,11 +20,8 @@ use Rattle.command.specs.declared.Decoded.{Decoded}
 use Rattle.command.specs.declared.Decoded.the-variants as decoded
 use Rattle.admission.specs.declared.Admitted.{Admitted}
 use Rattle.admission.specs.declared.Admitted.the-variants.{Refused, Go}
-use Rattle.admission.specs.Admission.{typeRules, codeRule, checkRule, rangeRule, sizeRule, bufferOf, bufferRule, refusal, admitCommand, admitDecoded, admitted}
+use Rattle.admission.specs.Admission.{typeRules, codeRule, checkRule, rangeRule, sizeRule, bufferOf, bufferRule, refusal, admitDecoded, admitted}
 use Rattle.admission.specs.Ready.{Ready}
-
-never : {A : Type 0} → false ≡ true → A
-never e = absurd (subst (λ (b : Bool). T (not b)) e tt)
 
 -- ---- a good answer of a ladder is good at every rung
 both-good : (a b : Answer) → isGood (orElse a b) ≡ true → (isGood a ≡ true) × (isGood b ≡ true)

@@ -1,20 +1,17 @@
 -- Each rule of admission from the facts that decide it.
 -- Assumes nothing.
-use mathlib.Core.Path.{_≡_, refl, sym, ap, _∙_}
-use mathlib.Core.Bool.{Bool, true, false, not, _&&_, _||_, cond}
+use mathlib.Core.Path.{_≡_, refl}
+use mathlib.Core.Bool.{Bool, true, false, _&&_, cond}
 use Prim.Native.Nat.{ℕ, _+_, _*_, _≤_, _<_}
 use native.Mathlib.Nat.{mul-le-mul}
-use native.Mathlib.Omega.{arith}
 use borrow.Author.Tests.{lt-ltb, le-ltb, eq-eqb, ne-eqb}
-use lib.Dec.{ltb, eqb}
-use Rattle.answer.specs.declared.Answer.{Answer}
+use lib.Dec.{eqb}
 use Rattle.answer.specs.declared.Answer.the-variants as answers
 use Rattle.segment.specs.declared.Description.{Description}
 use Rattle.segment.specs.Segment.{Segment, storedOf}
 use Rattle.segment.proofs.Laws.{sizes}
 use Rattle.command.specs.declared.Command.{Command}
 use Rattle.command.specs.declared.Operation.{Operation}
-use Rattle.command.specs.declared.Operation.the-variants.{Read, Write, Verify}
 use Rattle.admission.specs.Admission.{typeRules, codeRule, isVerify, checkRule, rangeRule, movedOf, sizeRule, bufferOf, bufferRule}
 
 module _ (d : Description) (c : Command) where

@@ -10,7 +10,8 @@ use lib.ListN.{length, take, drop, length-append, length-drop, take-append-drop}
 use lib.Seq.{drop-append-le, drop-at, drop-drop, take-add, length-take-le}
 use Rattle.words.specs.Parts.{Bytes}
 use Rattle.words.specs.Runs.{runs}
-use Rattle.blocks.proofs.Places.{append-bytes, drop-bytes, cut}
+use Rattle.words.proofs.Parts.{part-at, drop-bytes}
+use Rattle.blocks.proofs.Places.{append-bytes}
 
 -- one piece, and the rest
 pub one-within : (k P n : ℕ) → suc k * P ≤ n → P ≤ n
@@ -72,7 +73,7 @@ pub of-part : (made : List ℕ → List ℕ) (P i : ℕ) (s new : List ℕ) → 
     → new ≡ made (take (i + P - i) (drop i s)) → new ≡ made (drop i s)
 of-part made P i s new own h e =
     let long : length (take P (drop i s)) ≡ P = length-take-le P (drop i s) (rw length-drop (omega arith)) in
-    e ∙ ap made (cut i P s) ∙ sym (own (take P (drop i s)) (drop P (drop i s)) (le-of-eq (sym long))) ∙ ap made (take-append-drop P (drop i s))
+    e ∙ ap made (part-at i P s) ∙ sym (own (take P (drop i s)) (drop P (drop i s)) (le-of-eq (sym long))) ∙ ap made (take-append-drop P (drop i s))
 
 nil-of : (s : List ℕ) → length s ≡ 0 → s ≡ []
 nil-of [] e = refl

@@ -3,19 +3,15 @@
 use mathlib.Core.Path.{_≡_, sym, ap, _∙_}
 use mathlib.Core.List.{List, [], _∷_, _++_, append-assoc, append-nil}
 use Prim.Native.Nat.{ℕ, zero, suc, _+_, _-_, _/_, _%_, _^_, _<_, _≤_}
-use native.Mathlib.Nat.{mod-lt, zero-add, add-sub-cancel-left}
+use native.Mathlib.Nat.{mod-lt, zero-add}
 use native.Mathlib.Omega.{arith}
 use lib.Dec.{lit<}
 use lib.ListN.{length, take, drop, length-append}
-use lib.Seq.{take-append-le, take-append-seam, take-take, take-at, drop-at, drop-append-add, drop-drop, length-take-le, drop-length, getD-drop}
+use lib.Seq.{take-append-le, take-append-seam, take-take, take-at, drop-at, drop-append-add, drop-drop, length-take-le, drop-length}
 use Rattle.words.specs.BigEndian.{number, numberAt, bytes}
 use Rattle.words.specs.Parts.{put, Bytes}
 use Rattle.words.proofs.BigEndian.{bytes-length, number-bytes}
-use Rattle.words.proofs.Parts.{take-bytes}
-
--- the part of n elements from i on, as code cuts it
-pub cut : (i n : ℕ) (s : List ℕ) → take (i + n - i) (drop i s) ≡ take n (drop i s)
-cut i n s = ap (λ (k : ℕ). take k (drop i s)) (add-sub-cancel-left i n)
+use Rattle.words.proofs.Parts.{take-bytes, drop-bytes}
 
 -- ---- what was put at a place
 module _ (at : ℕ) (new old : List ℕ) (fits : at + length new ≤ length old) where
@@ -57,9 +53,6 @@ pub append-bytes : (a b : List ℕ) → Bytes a → Bytes b → Bytes (a ++ b)
 append-bytes [] b p q i = q i
 append-bytes (x ∷ a) b p q zero = p 0
 append-bytes (x ∷ a) b p q (suc i) = append-bytes a b (λ j. p (suc j)) q i
-
-pub drop-bytes : (n : ℕ) (s : List ℕ) → Bytes s → Bytes (drop n s)
-drop-bytes n s p i = rw getD-drop (p (n + i))
 
 pub put-bytes : (at : ℕ) (new old : List ℕ) → Bytes new → Bytes old → Bytes (put at new old)
 unfolding put

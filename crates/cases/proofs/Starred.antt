@@ -17,7 +17,7 @@ use Rattle.checks.specs.Checks.{columnsOf, applicationKnown, referenceKnown, fi
 use Rattle.checks.specs.Inserted.{insertedApplication, insertedReference, marksOf}
 use Rattle.transfer.specs.Transfer.{offsetOf, spanOf, blocksOf, whole, judgedIn, judged, handed, received, overwritten, performed, executed}
 use Rattle.stripe.specs.Stripe.{xorParts, parityOf, stripedOf, members, makeAnswered}
-use Rattle.cases.specs.Cases.{Case, result, expected, vectors, up, down, parityCase, onSegments, cases}
+use Rattle.cases.specs.Cases.{result, expected, vectors, up, down, parityCase, onSegments, cases}
 
 pub starred : map result cases ≡ map expected cases
 unfolding numberFrom number numberAt bytes put runs xors guard divide takeOff terms termsOf vectors up down isSegment intervalsOf sizeOf storedOf lengthOf recognise fields decodeAs decode firstOf storedGuard storedApplication storedReference escapes dataOf fieldOf anyEscapes guardWrong applicationWrong referenceWrong judgePieces judgeInterval judgeIntervals judgeBlock judgeBlocks fieldBytes withField storedBlock storedBlocks typeRules codeRule checkRule rangeRule movedOf sizeRule bufferOf bufferRule refusal admitted columnsOf applicationKnown referenceKnown firstTag rulesOf startOf insertedApplication insertedReference marksOf offsetOf spanOf blocksOf whole judgedIn judged handed received overwritten performed executed xorParts parityOf stripedOf members makeAnswered parityCase onSegments cases

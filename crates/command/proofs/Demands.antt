@@ -3,7 +3,7 @@
 use mathlib.Core.Path.{_≡_, refl, sym, ap, _∙_}
 use mathlib.Core.Bool.{Bool, true, false, not, _&&_, cond}
 use mathlib.Core.List.{List}
-use Prim.Native.Nat.{ℕ, _/_}
+use Prim.Native.Nat.{ℕ}
 use borrow.Author.Tests.{eqb-true}
 use lib.Dec.{eqb, ltb}
 use lib.ListN.{length, getD}
@@ -13,8 +13,7 @@ use Rattle.command.specs.declared.Operation.{Operation}
 use Rattle.command.specs.declared.Form.{Form}
 use Rattle.command.specs.declared.Named.{Named}
 use Rattle.command.specs.declared.Named.the-variants.{Known, Unknown}
-use Rattle.command.specs.declared.Decoded.the-variants.{Served, Refused}
-use Rattle.command.specs.Command.{layoutOf, isLong, find, byteZero, serviceAction, recognise, fields, decodeAs, decode}
+use Rattle.command.specs.Command.{isLong, find, byteZero, serviceAction, recognise, fields, decodeAs, decode}
 use Rattle.command.specs.Bits.{SameAt, SameColumns, SameCommand}
 use Rattle.command.proofs.Laws.{decode-known, decode-unknown}
 

@@ -3,12 +3,12 @@
 use mathlib.Core.Path.{_≡_, refl, sym, ap, ap₂, _∙_}
 use mathlib.Core.Bool.{Bool}
 use mathlib.Core.List.{List, [], _∷_}
-use Prim.Native.Nat.{ℕ, zero, suc, _+_, _*_, _/_, _%_, _^_, _<_, _≤_}
+use Prim.Native.Nat.{ℕ, suc, _+_, _*_, _/_, _%_, _<_, _≤_}
 use native.Mathlib.Nat.{mod-lt, mod-eq-of-lt, lt-of-lt-of-le, div-add-mod', add-zero}
 use native.Mathlib.Omega.{arith}
-use lib.Bits.{bitXor, xor-lt, xor-block, xor-shifted, xor-comm, xor-zero-l, xor-zero-r}
+use lib.Bits.{bitXor, xor-lt, xor-block, xor-shifted, xor-comm, xor-zero-r}
 use lib.Dec.{T, lit<, eqb, eqb→eq}
-use lib.ListN.{length, getD}
+use lib.ListN.{length}
 use Rattle.words.specs.Parts.{Bytes}
 use Rattle.words.proofs.Every.{every, each}
 use Rattle.guard.specs.Guard.{guard}

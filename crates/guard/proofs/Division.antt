@@ -1,6 +1,6 @@
 -- The document's long division and the guard from a starting remainder are the same.
 -- Assumes nothing.
-use mathlib.Core.Path.{_≡_, refl, sym, ap, ap₂, _∙_}
+use mathlib.Core.Path.{_≡_, refl, sym, ap, _∙_}
 use mathlib.Core.List.{List, [], _∷_, _++_}
 use Prim.Native.Nat.{ℕ, zero, suc, _+_, _-_, _*_, _/_, _%_, _^_, _<_, _≤_}
 use native.Mathlib.Nat.{mod-lt, mod-one, zero-add, le-refl, lt-of-lt-of-le}
@@ -8,7 +8,7 @@ use native.Mathlib.Numerals.{one-add}
 use native.Mathlib.Decide.{decLt}
 use native.Mathlib.Omega.{arith}
 use lib.Bits.{bitXor, xor-lt, xor-zero-r, xor-shifted, xor-block, xor-comm}
-use lib.Dec.{lit<, ltb}
+use lib.Dec.{lit<}
 use lib.Pow.{pow-pos, pow-mono, shl-lt, mod-pow-add}
 use lib.ListN.{replicate}
 use borrow.Author.Tests.{lt-ltb, le-ltb}

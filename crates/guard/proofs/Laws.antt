@@ -1,9 +1,9 @@
 -- The laws of the guard that later parts stand on.
 -- Assumes nothing.
-use mathlib.Core.Path.{_≡_, refl, sym, ap, ap₂, _∙_}
-use mathlib.Core.List.{List, [], _∷_, _++_}
+use mathlib.Core.Path.{_≡_, sym, ap, ap₂, _∙_}
+use mathlib.Core.List.{List, _++_}
 use Prim.Native.Nat.{ℕ, _*_, _<_}
-use lib.Bits.{bitXor, xor-zero-l, xor-zero-r, xor-comm}
+use lib.Bits.{bitXor, xor-zero-r}
 use lib.Dec.{lit<}
 use lib.ListN.{length, replicate, length-replicate}
 use Rattle.words.specs.Xor.{xors}

@@ -3,7 +3,7 @@
 use mathlib.Core.Path.{_≡_, refl, sym, ap, ap₂, _∙_}
 use mathlib.Core.List.{List, [], _∷_, _++_}
 use Prim.Native.Nat.{ℕ, zero, suc, _+_, _*_, _/_, _%_, _^_, _<_, _≤_}
-use native.Mathlib.Nat.{suc-inj, mod-lt, pow-suc, mul-assoc, mul-comm, mul-one, mul-suc, mul-le-mul-left, le-of-eq, le-trans, lt-of-le-of-lt, add-zero, one-le-pow, zero-mul, zero-add, suc-add, pow-succ'}
+use native.Mathlib.Nat.{suc-inj, mod-lt, mul-assoc, mul-one, mul-le-mul-left, one-le-pow, zero-mul, zero-add, suc-add, pow-succ'}
 use native.Mathlib.Omega.{arith}
 use lib.Bits.{bitXor, xor-lt, xor-mod, xor-shr, xor-zero-l, xor-zero-r, xor-self}
 use lib.Dec.{lit<}

@@ -2,13 +2,15 @@
 -- Assumes nothing.
 use mathlib.Core.Path.{_≡_, refl, sym, ap, ap₂, _∙_}
 use mathlib.Core.Logic.{_↔_}
-use mathlib.Core.Bool.{Bool, true, false, _||_, cond, true≢false}
+use mathlib.Core.Bool.{Bool, true, false, _||_, cond}
 use mathlib.Core.List.{List}
 use Prim.Native.Nat.{ℕ, zero, suc, _+_, _-_, _*_, _^_, _<_, _≤_}
-use native.Mathlib.Nat.{zero-add, one-mul, add-assoc}
+use native.Mathlib.Nat.{zero-add, one-mul, add-assoc, mul-le-mul}
 use native.Mathlib.Omega.{arith}
 use lib.ListN.{length, take, drop, length-drop}
 use lib.Seq.{drop-drop, take-take, length-take-le}
+use Rattle.words.proofs.Choice.{or-none}
+use Rattle.words.proofs.Parts.{part-at}
 use Rattle.words.proofs.Runs.{peel-within, peel-rest}
 use Rattle.answer.specs.declared.Answer.{Answer}
 use Rattle.answer.specs.declared.Answer.the-variants as answers
@@ -25,10 +27,6 @@ interval-within k i size n h e = rw (add-assoc i size 8) (peel-within k i (size 
 
 pub interval-rest : (k i size n : ℕ) → 0 < k → i + k * (size + 8) ≡ n → i + size + 8 + (k - 1) * (size + 8) ≡ n
 interval-rest k i size n h e = rw (add-assoc i size 8) (peel-rest k i (size + 8) n h e)
-
--- a part that is cut from i on
-pub part-at : (i n : ℕ) (s : List ℕ) → take (i + n - i) (drop i s) ≡ take n (drop i s)
-part-at i n s = let same : i + n - i ≡ n = omega arith in rw same refl
 
 pub data-part : (i size : ℕ) (s : List ℕ) → take (i + size - i) (drop i s) ≡ dataOf size (drop i s)
 unfolding dataOf
@@ -48,10 +46,6 @@ unfolding fieldOf
 own-field size s = rw drop-take (take-take 8 8 (drop size s) (omega arith))
 
 -- ---- the escape of any of k intervals
-or-none : (a b : Bool) → (a || b ≡ false) ↔ ((a ≡ false) × (b ≡ false))
-or-none true b = (λ e. (e, absurd (true≢false e)), λ two. two .0)
-or-none false b = (λ e. (refl, e), λ two. two .1)
-
 module _ (e : Escape) (size : ℕ) where
   abbrev looked : Unit {0} → List ℕ → Bool
   looked u s = escapes e (fieldOf size s)
@@ -134,14 +128,14 @@ module _ (r : Rules) (g : r .guard ≡ false) (a : r .application ≡ false) (x 
 
 -- ---- a run of blocks: the first, and those behind it
 module _ (r : Rules) (k : ℕ) (p : Place) (s : List ℕ) (run : Run r k p s) (some : 0 < k) where
-  pub run-within : r .intervals * (r .size + 8) ≤ length s
+  run-within : r .intervals * (r .size + 8) ≤ length s
   run-within = rw zero-add at (peel-within k 0 (r .intervals * (r .size + 8)) (length s) some (zero-add _ ∙ run .whole))
 
   -- the intervals of the first block, and then those of the others
   apiece : p .interval + r .intervals + (k - 1) * r .intervals ≤ 2 ^ 32
   apiece = rw (peel-rest k (p .interval) (r .intervals) _ some refl) (run .intervals)
 
-  pub run-one : Run r 1 p (take (r .intervals * (r .size + 8)) s)
+  run-one : Run r 1 p (take (r .intervals * (r .size + 8)) s)
   run-one =
       record {
         whole = one-mul _ ∙ sym (length-take-le _ s run-within);
@@ -151,7 +145,7 @@ module _ (r : Rules) (k : ℕ) (p : Place) (s : List ℕ) (run : Run r k p s) (s
         size = run .size;
       }
 
-  pub run-next : Run r (k - 1) (nextBlock (r .intervals) p) (drop (r .intervals * (r .size + 8)) s)
+  run-next : Run r (k - 1) (nextBlock (r .intervals) p) (drop (r .intervals * (r .size + 8)) s)
   run-next =
       record {
         whole = rw length-drop (omega (arith, peel-rest k 0 (r .intervals * (r .size + 8)) (length s) some (zero-add _ ∙ run .whole)));
@@ -160,3 +154,23 @@ module _ (r : Rules) (k : ℕ) (p : Place) (s : List ℕ) (run : Run r k p s) (s
         few = run .few;
         size = run .size;
       }
+
+-- the same of a run that starts at i
+module _ {r : Rules} {k : ℕ} {p : Place} (s : List ℕ) (i : ℕ) (run : Run r k p (drop i s)) (some : 0 < k) where
+  pub first-within : i ≤ length s → i + r .intervals * (r .size + 8) ≤ length s
+  first-within h = omega (arith, length-drop i s, run-within r k p (drop i s) run some)
+
+  pub first-run : Run r 1 p (take (i + r .intervals * (r .size + 8) - i) (drop i s))
+  first-run = rw part-at (run-one r k p (drop i s) run some)
+
+  pub first-room : (r .intervals ≤ 8) × (p .interval + r .intervals ≤ 2 ^ 32) × (p .address < 2 ^ 63)
+  first-room =
+      let one = run-one r k p (drop i s) run some in
+      (one .few, omega (arith, one .intervals, one-mul (r .intervals)), omega (arith, one .addresses))
+
+  pub rest-run : Run r (k - 1) (nextBlock (r .intervals) p) (drop (i + r .intervals * (r .size + 8)) s)
+  rest-run = rw (← drop-drop (r .intervals * (r .size + 8)) i s) (run-next r k p (drop i s) run some)
+
+-- the bytes of a block, at most
+pub block-fits : {r : Rules} {k : ℕ} {p : Place} {s : List ℕ} → Run r k p s → r .intervals * (r .size + 8) ≤ 8 * (4096 + 8)
+block-fits run = mul-le-mul {m₂ = 4096 + 8} (run .few) (omega (arith, run .size))

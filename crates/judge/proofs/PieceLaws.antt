@@ -1,11 +1,12 @@
 -- One interval: each answer is given exactly when its field is the first wrong one.
 -- Assumes nothing.
 use mathlib.Core.Path.{_≡_, refl, sym, ap}
-use mathlib.Core.Bool.{Bool, true, false, not, _&&_, cond, true≢false, false≢true}
+use mathlib.Core.Bool.{Bool, true, false, not, _&&_, cond, true≢false}
 use mathlib.Core.List.{List}
 use Prim.Native.Nat.{ℕ}
 use lib.Dec.{eqb}
 use borrow.Author.Tests.{eqb-false}
+use Rattle.words.proofs.Choice.{never}
 use Rattle.answer.specs.Answer.{numberOf}
 use Rattle.answer.specs.declared.Answer.{Answer}
 use Rattle.answer.specs.declared.Answer.the-variants as answers
@@ -30,9 +31,6 @@ apart m n d e = absurd (eqb-false (numberOf m) (numberOf n) d (ap numberOf e))
 not-true : {G : Type 0} → true ≡ false → G
 not-true t = absurd (true≢false t)
 
-not-false : {G : Type 0} → false ≡ true → G
-not-false t = absurd (false≢true t)
-
 in-order : (g a f : Bool) (x y : ℕ)
     → Verdict g a f x y (cond g (answers.Guard x y) (cond a (answers.Application x y) (cond f (answers.Reference x y) answers.Good)))
 in-order true a f x y =
@@ -44,23 +42,23 @@ in-order true a f x y =
     }
 in-order false true f x y =
     record {
-      guard = (apart _ _ refl, not-false);
+      guard = (apart _ _ refl, never);
       application = (λ e. (refl, refl), λ t. refl);
       reference = (apart _ _ refl, λ t. not-true (t .1));
       good = (apart _ _ refl, λ t. not-true (t .1));
     }
 in-order false false true x y =
     record {
-      guard = (apart _ _ refl, not-false);
-      application = (apart _ _ refl, λ t. not-false (t .1));
+      guard = (apart _ _ refl, never);
+      application = (apart _ _ refl, λ t. never (t .1));
       reference = (λ e. (refl, refl, refl), λ t. refl);
       good = (apart _ _ refl, λ t. not-true (t .2));
     }
 in-order false false false x y =
     record {
-      guard = (apart _ _ refl, not-false);
-      application = (apart _ _ refl, λ t. not-false (t .1));
-      reference = (apart _ _ refl, λ t. not-false (t .2));
+      guard = (apart _ _ refl, never);
+      application = (apart _ _ refl, λ t. never (t .1));
+      reference = (apart _ _ refl, λ t. never (t .2));
       good = (λ e. (refl, refl, refl), λ t. refl);
     }
 

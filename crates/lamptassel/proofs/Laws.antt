@@ -1,6 +1,6 @@
 -- From what a crate below promises of an answer to the numbers that are handed over.
 -- Assumes nothing.
-use mathlib.Core.Path.{_≡_, sym, ap, _∙_}
+use mathlib.Core.Path.{_≡_, ap, _∙_}
 use mathlib.Core.List.{List}
 use Prim.Native.Nat.{ℕ}
 use Rattle.answer.specs.Answer.{numberOf, addressOf, placeOf}

@@ -1,13 +1,14 @@
 -- The laws of a record: its frame as a test and as facts, and which refusal comes first.
 -- Assumes nothing.
 use mathlib.Core.Path.{_≡_, refl, sym, ap, _∙_}
-use mathlib.Core.Bool.{Bool, true, false, not, _||_, cond, true≢false}
+use mathlib.Core.Bool.{Bool, true, false, not, cond}
 use mathlib.Core.List.{List}
 use Prim.Native.Nat.{ℕ, _+_, _-_}
 use borrow.Author.Tests.{le-ltb, eq-eqb, ne-eqb, ltb-false, eqb-true, not-false}
 use lib.Dec.{eqb, ltb}
 use lib.ListN.{length, getD, length-drop}
 use Rattle.words.specs.BigEndian.{numberAt}
+use Rattle.words.proofs.Choice.{never, or-none}
 use Rattle.answer.specs.Answer.{isGood}
 use Rattle.answer.specs.declared.Answer.the-variants as answers
 use Rattle.segment.specs.declared.Description.{Description}
@@ -16,17 +17,13 @@ use Rattle.segment.proofs.Laws.{segment-facts, is-segment}
 use Rattle.listing.specs.Record.{frameBad, Framed, describedBy, segmentIn, recordAnswer}
 
 -- ---- the frame
-or-parts : (a b : Bool) → a || b ≡ false → (a ≡ false) × (b ≡ false)
-or-parts true b e = (e, absurd (true≢false e))
-or-parts false b e = (refl, e)
-
 pub frame-facts : (input : List ℕ) → frameBad input ≡ false → Framed input
 unfolding frameBad
 frame-facts input e =
-    let start = or-parts (ltb (length input) 4) _ e in
-    let most = or-parts (ltb 65532 (numberAt 0 4 input)) _ (start .1) in
-    let least = or-parts (ltb (numberAt 0 4 input) 15) _ (most .1) in
-    let whole = or-parts (not (eqb (length input) (4 + numberAt 0 4 input))) _ (least .1) in
+    let start = or-none (ltb (length input) 4) _ .0 e in
+    let most = or-none (ltb 65532 (numberAt 0 4 input)) _ .0 (start .1) in
+    let least = or-none (ltb (numberAt 0 4 input) 15) _ .0 (most .1) in
+    let whole = or-none (not (eqb (length input) (4 + numberAt 0 4 input))) _ .0 (least .1) in
     record {
       start = ltb-false _ _ (start .0);
       most = ltb-false _ _ (most .0);
@@ -92,9 +89,9 @@ pub record Whole (input : List ℕ) : Type 0 where
 
 passed : (f s l : Bool) → isGood (cond f answers.Listing (cond (not s) answers.Description (cond (not l) answers.Segment answers.Good))) ≡ true
     → (f ≡ false) × ((s ≡ true) × (l ≡ true))
-passed true s l e = absurd (true≢false (sym e))
-passed false false l e = absurd (true≢false (sym e))
-passed false true false e = absurd (true≢false (sym e))
+passed true s l e = never e
+passed false false l e = never e
+passed false true false e = never e
 passed false true true e = (refl, (refl, refl))
 
 pub record-whole : (input : List ℕ) → isGood (recordAnswer input) ≡ true → Whole input

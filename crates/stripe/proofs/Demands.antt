@@ -15,7 +15,7 @@ use lib.ListN.{length, drop, length-drop}
 use Rattle.words.specs.Parts.{Bytes, put}
 use Rattle.words.specs.Xor.{xors}
 use Rattle.words.proofs.BitXor.{xor-cancel}
-use Rattle.words.proofs.Parts.{put-length}
+use Rattle.words.proofs.Parts.{put-length, drop-bytes}
 use Rattle.words.proofs.Xor.{xors-drop, xors-length, xors-cancel}
 use Rattle.guard.specs.Guard.{guard}
 use Rattle.judge.specs.Judge.{dataOf, fieldOf, storedGuard}
@@ -30,7 +30,7 @@ use Rattle.stripe.specs.Error.{errorAt, memberError, beginOf, errorIn, x
 use Rattle.stripe.proofs.Sums.{by-side, member-part, parity-part, any-part, all-but-one, others-only, parityOf-length, rebuiltOf-length, ends, part-length, put-part, put-other}
 use Rattle.stripe.proofs.Ladder.{same}
 use Rattle.stripe.proofs.Fits.{not-zero, make-is, make-only, rebuild-is, rebuild-only, correct-is, correct-only}
-use Rattle.stripe.proofs.Errors.{error-xors, drop-bytes, over-zero, over-one, of-parity}
+use Rattle.stripe.proofs.Errors.{error-xors, over-zero, over-one, of-parity}
 
 -- ---- guard errors
 

@@ -2,19 +2,19 @@
 -- Assumes nothing.
 use mathlib.Core.Path.{_≡_, refl, sym, ap, ap₂, _∙_}
 use mathlib.Core.List.{List}
-use Prim.Native.Nat.{ℕ, zero, suc, _+_, _*_, _≤_, _<_}
+use Prim.Native.Nat.{ℕ, zero, suc, _*_, _≤_, _<_}
 use native.Mathlib.Nat.{suc-mul}
 use native.Mathlib.Omega.{arith}
 use lib.Bits.{bitXor, xor-zero-l, xor-zero-r, xor-self}
 use lib.Dec.{lit<}
 use lib.ListN.{length, take, drop, replicate, length-take, length-drop, length-replicate}
-use lib.Seq.{getD-drop, length-take-le}
+use lib.Seq.{length-take-le}
 use Rattle.words.specs.BigEndian.{number, numberAt}
 use Rattle.words.specs.Parts.{Bytes}
 use Rattle.words.specs.Xor.{xors}
 use Rattle.words.proofs.BigEndian.{number-xors}
 use Rattle.words.proofs.BitXor.{xor-assoc, xor-swap}
-use Rattle.words.proofs.Parts.{take-bytes, part-bytes}
+use Rattle.words.proofs.Parts.{take-bytes, drop-bytes, part-bytes}
 use Rattle.words.proofs.Xor.{xors-take, xors-drop, xors-self, xors-length, xors-bytes}
 use Rattle.guard.specs.Guard.{guard}
 use Rattle.guard.proofs.Laws.{guard-xors}
@@ -24,9 +24,6 @@ use Rattle.stripe.specs.Error.{errorAt, xorOver}
 use Rattle.stripe.proofs.Sums.{part-first, part-next}
 
 -- ---- lists of bytes
-pub drop-bytes : (n : ℕ) (s : List ℕ) → Bytes s → Bytes (drop n s)
-drop-bytes n s p i = rw getD-drop (p (n + i))
-
 zeros-bytes : (n : ℕ) → Bytes (replicate n 0)
 zeros-bytes zero i = lit< tt
 zeros-bytes (suc n) zero = lit< tt

@@ -1,7 +1,7 @@
 -- What was written is judged good when it is read: inserted fields are right ones, and fields that a WRITE found right stay right.
 -- Assumes nothing.
 use mathlib.Core.Path.{_≡_, refl, sym, ap, ap₂, _∙_}
-use mathlib.Core.Bool.{Bool, true, false, not, _&&_, _||_, cond, false≢true}
+use mathlib.Core.Bool.{Bool, true, false, not, _&&_, _||_, cond}
 use mathlib.Core.List.{List, [], _++_, append-assoc, append-nil}
 use Prim.Native.Nat.{ℕ, zero, suc, _+_, _*_, _%_, _^_, _<_, _≤_}
 use native.Mathlib.Nat.{suc-mul, mod-lt, mul-one}
@@ -11,6 +11,7 @@ use lib.Bits.{bitAnd}
 use lib.Dec.{eqb, lit<}
 use lib.ListN.{length, take, drop, length-drop}
 use lib.Seq.{take-at, drop-at}
+use Rattle.words.proofs.Choice.{never}
 use Rattle.words.specs.Runs.{runs}
 use Rattle.answer.specs.declared.Answer.{Answer}
 use Rattle.answer.specs.declared.Answer.the-variants as answers
@@ -110,9 +111,6 @@ module _ (r : Rules) where
       (λ q n g. fit-later (r .intervals) (q .address + 1) (q .interval + r .intervals) q n g) k p m s [] f h)
 
 -- the marks that a WRITE with 000 begins with are those that the READ expects first
-never : {A : Type 0} → false ≡ true → A
-never e = absurd (false≢true e)
-
 fit-application : (col l : Bool) (a x : ℕ) → col && (l && eqb a 1) ≡ true → cond (eqb a 0) 0x0000 (cond l x 0xFFFF) ≡ x
 fit-application true true a x o = rw (eqb-true a 1 o)
 fit-application true false a x o = never o

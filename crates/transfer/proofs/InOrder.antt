@@ -9,7 +9,6 @@ use lib.ListN.{length, getD}
 use Rattle.words.specs.BigEndian.{numberAt}
 use Rattle.answer.specs.Answer.{isGood, orElse}
 use Rattle.answer.specs.declared.Answer.{Answer}
-use Rattle.answer.specs.declared.Answer.the-variants as answers
 use Rattle.segment.specs.declared.Description.{Description}
 use Rattle.segment.specs.Segment.{isSegment, lengthOf}
 use Rattle.command.specs.declared.Command.{Command}
@@ -23,7 +22,7 @@ use Rattle.command.specs.Command.{Row, byteZero, serviceAction, find, recognise
 use Rattle.command.proofs.Laws.{decode-known, decode-unknown}
 use Rattle.admission.specs.declared.Admitted.{Admitted}
 use Rattle.admission.specs.declared.Admitted.the-variants.{Refused, Go}
-use Rattle.admission.specs.Admission.{typeRules, codeRule, isVerify, checkRule, rangeRule, movedOf, sizeRule, bufferOf, bufferRule, refusal, admitDecoded, admitted}
+use Rattle.admission.specs.Admission.{typeRules, codeRule, checkRule, rangeRule, movedOf, sizeRule, bufferOf, bufferRule, refusal, admitDecoded, admitted}
 use Rattle.transfer.specs.Checked.{forProtection}
 
 -- what holds of both holds of the one that a test picks

@@ -1,6 +1,6 @@
 -- From what an admitted command's parts did to the command's outcome.
 -- Assumes nothing.
-use mathlib.Core.Path.{_≡_, refl, sym, ap, ap₂, _∙_}
+use mathlib.Core.Path.{_≡_, sym, ap, ap₂, _∙_}
 use mathlib.Core.Bool.{false}
 use mathlib.Core.List.{List}
 use Prim.Native.Nat.{ℕ, _+_, _-_, _^_, _≤_}
@@ -18,7 +18,7 @@ use Rattle.admission.specs.declared.Admitted.the-variants.{Refused, Go}
 use Rattle.admission.specs.Admission.{isVerify, admitted}
 use Rattle.admission.specs.Ready.{Ready}
 use Rattle.admission.proofs.Rules.{room-moved}
-use Rattle.transfer.specs.Transfer.{outcome, keep, offsetOf, spanOf, blocksOf, judgedIn, judgedFor, judged, handed, received, overwritten, performedFor, performed, executedAs, executed}
+use Rattle.transfer.specs.Transfer.{outcome, keep, offsetOf, spanOf, blocksOf, judgedIn, judgedFor, judged, handed, received, overwritten, performedFor, performed, executed}
 use Rattle.transfer.specs.Inner.{Shaped, Placed, Fitted, ReadDone, WriteDone}
 use Rattle.transfer.proofs.Shapes.{span-within}
 

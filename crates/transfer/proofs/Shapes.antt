@@ -1,14 +1,15 @@
 -- The sizes of a transfer: all that is multiplied is multiplied here.
 -- Assumes nothing.
-use mathlib.Core.Path.{_≡_, refl, sym, ap, subst, _∙_}
+use mathlib.Core.Path.{_≡_, refl, sym, ap, _∙_}
 use mathlib.Core.Bool.{Bool, true, false, not, _||_, cond}
 use mathlib.Core.List.{List}
-use Prim.Native.Nat.{ℕ, _+_, _*_, _-_, _^_, _≤_}
+use Prim.Native.Nat.{ℕ, _+_, _*_, _-_, _≤_}
 use native.Mathlib.Nat.{mul-assoc, mul-le-mul, mul-le-mul-right, add-mul}
 use native.Mathlib.Omega.{arith}
 use borrow.Author.Tests.{eq-eqb, ne-eqb, eqb-true, eqb-false}
-use lib.Dec.{T, eqb, lit≤}
+use lib.Dec.{eqb, lit≤}
 use lib.ListN.{length}
+use Rattle.words.proofs.Choice.{never}
 use Rattle.words.specs.Parts.{put}
 use Rattle.answer.specs.declared.Answer.the-variants as answers
 use Rattle.segment.specs.declared.Description.{Description}
@@ -104,9 +105,6 @@ span-within d c s b r =
     (mul-le-mul-right (storedOf d) (let h : c .address - d .first + c .length ≤ d .count = omega (arith, r .from, r .to) in h))
 
 -- ---- what the test of `whole` tells
-never : {A : Type 0} → false ≡ true → A
-never e = absurd (subst (λ (b : Bool). T (not b)) e tt)
-
 module _ (d : Description) (c : Command) where
   pub moved-when-whole : Segment d → (d .kind ≡ 0 → c .code ≡ 0) → whole d c ≡ true → movedOf d c ≡ spanOf d c
   unfolding whole

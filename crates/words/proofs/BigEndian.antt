@@ -1,16 +1,16 @@
 -- The laws of numbers in bytes, over any number of bytes.
 -- Assumes nothing.
-use mathlib.Core.Path.{_≡_, refl, sym, ap, ap₂, _∙_, subst}
+use mathlib.Core.Path.{_≡_, refl, sym, ap, _∙_}
 use mathlib.Core.List.{List, [], _∷_, _++_, append-assoc}
 use Prim.Native.Nat.{ℕ, zero, suc, _+_, _-_, _*_, _/_, _%_, _^_, _<_, _≤_}
-use native.Mathlib.Nat.{suc-inj, pow-suc, add-zero, add-suc, suc-add, zero-add, lt-of-lt-of-le, div-lt-iff-lt-mul, div-add-mod', mod-lt, le-refl, pow-le-pow-right}
+use native.Mathlib.Nat.{suc-inj, pow-suc, add-zero, add-suc, suc-add, zero-add, lt-of-lt-of-le, div-lt-iff-lt-mul, div-add-mod', le-refl, pow-le-pow-right}
 use native.Mathlib.Numerals.{add-one}
 use native.Mathlib.Omega.{arith}
 use lib.Arith.{digits-lt}
 use lib.Bits.{bitXor, xor-block}
 use lib.Dec.{lit<}
 use lib.ListN.{length, getD, take, drop, set, length-append, length-set, length-take, length-drop, drop-of-length-le}
-use lib.Seq.{drop-set-lt, getD-set-same, take-set-le, drop-cons}
+use lib.Seq.{drop-set-lt, getD-set-same, drop-cons}
 use Rattle.words.specs.BigEndian.{numberFrom, number, numberAt, bytes}
 use borrow.Rule.Slice.PartMut.{midOf, putMid}
 use Rattle.words.specs.Parts.{Bytes, put}

@@ -5,7 +5,7 @@ use Prim.Native.Nat.{ℕ, zero, suc, _+_, _*_, _/_, _%_, _^_, _<_}
 use native.Mathlib.Nat.{mod-lt, add-zero}
 use native.Mathlib.Omega.{arith}
 use lib.Arith.{bin-ind, digits-mod}
-use lib.Bits.{bitXor, differ, xor-step, xor-zero-l, xor-zero-r, xor-comm, xor-self, xor-shr, xor-block}
+use lib.Bits.{bitXor, differ, xor-step, xor-zero-r, xor-comm, xor-self, xor-shr, xor-block}
 use lib.Dec.{lit<}
 use lib.Pow.{pow-pos}
 

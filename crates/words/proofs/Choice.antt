@@ -1,8 +1,16 @@
--- A choice by a test, from the facts that the test stands for.
+-- Tests: what a true or a false one tells, and a choice by one.
 -- Assumes nothing.
 use mathlib.Core.Path.{_≡_, refl}
-use mathlib.Core.Bool.{Bool, true, false, _&&_, cond}
+use mathlib.Core.Logic.{_↔_}
+use mathlib.Core.Bool.{Bool, true, false, _&&_, _||_, cond, true≢false, false≢true}
 use lib.Dec.{T}
+
+pub never : {A : Type 0} → false ≡ true → A
+never e = absurd (false≢true e)
+
+pub or-none : (a b : Bool) → (a || b ≡ false) ↔ ((a ≡ false) × (b ≡ false))
+or-none true b = (λ e. (e, absurd (true≢false e)), λ two. two .0)
+or-none false b = (λ e. (refl, e), λ two. two .1)
 
 pub and-true : (a b : Bool) → T a → T b → T (a && b)
 and-true true b p q = q

@@ -1,13 +1,14 @@
 -- Laws on parts of lists: what a loop that goes through a list from the front needs, and what was put at a place.
 -- Assumes nothing.
-use mathlib.Core.Path.{_≡_, refl, sym, ap, ap₂, _∙_}
+use mathlib.Core.Path.{_≡_, sym, _∙_}
 use mathlib.Core.List.{List, [], _∷_, _++_, append-nil, append-assoc}
 use Prim.Native.Nat.{ℕ, zero, suc, _+_, _-_, _<_, _≤_}
+use native.Mathlib.Nat.{add-sub-cancel-left}
 use native.Mathlib.Numerals.{add-one}
 use native.Mathlib.Omega.{arith}
 use lib.Dec.{lit<}
-use lib.ListN.{length, getD, take, drop, set, length-append, length-take, length-drop, drop-of-length-le}
-use lib.Seq.{drop-cons, take-suc-set, append-snoc, take-all, getD-take, getD-drop, drop-set-lt, drop-append-add, take-append-le, take-at, drop-at, length-take-le, take-nil}
+use lib.ListN.{length, getD, take, drop, set, length-append, length-take, length-drop}
+use lib.Seq.{drop-cons, take-suc-set, take-all, getD-drop}
 use borrow.Rule.Slice.PartMut.{putMid, post-is}
 use Rattle.words.specs.Parts.{put, Bytes}
 
@@ -21,14 +22,21 @@ store-next d rest whole i v h e = rw (add-one, take-suc-set d i v) (append-assoc
 pub store-end : (d whole : List ℕ) (i : ℕ) → length d ≤ i → take i d ++ [] ≡ whole → d ≡ whole
 store-end d whole i h e = sym (take-all i d h) ∙ sym (append-nil (take i d)) ∙ e
 
+-- the part of n elements from i on, as code cuts it
+pub part-at : (i n : ℕ) (s : List ℕ) → take (i + n - i) (drop i s) ≡ take n (drop i s)
+part-at i n s = rw (add-sub-cancel-left i n)
+
 pub take-bytes : (n : ℕ) (s : List ℕ) → Bytes s → Bytes (take n s)
 take-bytes zero s p i = lit< tt
 take-bytes (suc n) [] p i = lit< tt
 take-bytes (suc n) (x ∷ s) p zero = p 0
 take-bytes (suc n) (x ∷ s) p (suc i) = take-bytes n s (λ j. p (suc j)) i
 
+pub drop-bytes : (n : ℕ) (s : List ℕ) → Bytes s → Bytes (drop n s)
+drop-bytes n s p i = rw getD-drop (p (n + i))
+
 pub part-bytes : (at n : ℕ) (s : List ℕ) → Bytes s → Bytes (take n (drop at s))
-part-bytes at n s p = take-bytes n (drop at s) (λ i. rw getD-drop (p (at + i)))
+part-bytes at n s p = take-bytes n (drop at s) (drop-bytes at s p)
 
 -- ---- what was put at a place
 pub put-length : (at : ℕ) (new old : List ℕ) → at + length new ≤ length old → length (put at new old) ≡ length old

@@ -1,13 +1,12 @@
 -- The laws of the exclusive or of two lists. Where one has no premise on lengths, it holds of any two lists.
 -- Assumes nothing.
-use mathlib.Core.Path.{_≡_, refl, sym, ap, ap₂, _∙_}
+use mathlib.Core.Path.{_≡_, refl, sym, ap, ap₂}
 use mathlib.Core.List.{List, [], _∷_, _++_}
-use Prim.Native.Nat.{ℕ, zero, suc, _<_}
-use native.Mathlib.Nat.{suc-inj, le-of-suc-le-suc, not-suc-le-zero}
+use Prim.Native.Nat.{ℕ, zero, suc}
+use native.Mathlib.Nat.{suc-inj}
 use native.Mathlib.Omega.{arith}
 use lib.Bits.{bitXor, xor-comm, xor-self, xor-zero-r, xor-lt}
-use lib.Dec.{lit<}
-use lib.ListN.{length, getD, take, drop, set, replicate}
+use lib.ListN.{length, getD, take, drop, replicate}
 use Rattle.words.specs.Xor.{xors}
 use Rattle.words.specs.Parts.{Bytes}
 use Rattle.words.proofs.BitXor.{xor-assoc, xor-cancel}

@@ -1,6 +1,6 @@
 -- `admission::admit`: the description, the segment's length, the command's bytes, its fields, in this order.
 -- Assumes nothing.
-use mathlib.Core.Path.{_≡_, refl, sym, _∙_}
+use mathlib.Core.Path.{_≡_, sym, _∙_}
 use mathlib.Core.Bool.{false}
 use mathlib.Core.List.{List}
 use Prim.Native.Nat.{ℕ}
@@ -36,9 +36,6 @@ module _ (d : Description) (s : ℕ) (command : List ℕ) (b : ℕ) where
   unfolding admitted
   on-served f l e = rw (is-segment d f, eq-eqb s (lengthOf d) l, e)
 
-fit-requires : tie.Need-fit-requires
-fit-requires c κs = search needs
-
 returns : tie.Need-returns
 returns c = sym (not-described _ _ _ _ (undescribed _ _ (c .before .fit .ensures) (c .if1 .taken)))
 
@@ -47,15 +44,6 @@ length-requires c κs = (described _ _ (c .before .fit .ensures) (c .if1 .left))
 
 returns-2 : tie.Need-returns-2
 returns-2 c = sym (not-whole _ _ _ _ (described _ _ (c .before .before .before .fit .ensures) (c .before .before .if1 .left)) (λ e. c .if2 .taken (e ∙ sym (c .before .length .ensures))))
-
-decoded-from-requires : tie.Need-decoded-from-requires
-decoded-from-requires c κs = search needs
-
-enum-known-decoded : tie.Need-enum-known-decoded
-enum-known-decoded c = search needs
-
-enum-known-decoded-2 : tie.Need-enum-known-decoded-2
-enum-known-decoded-2 c = search needs
 
 admit-command-requires : tie.Need-admit-command-requires
 admit-command-requires c κs = (described _ _ (c .before .before .before .before .before .before .before .fit .ensures) (c .before .before .before .before .before .before .if1 .left))
@@ -70,13 +58,11 @@ pub admit-spec : {M : Type 1} → statement M
 admit-spec =
     tie.close
     (tie.spec
-    fit-requires
+    (λ c κs. search needs)
     returns
     length-requires
     returns-2
-    decoded-from-requires
-    enum-known-decoded
-    enum-known-decoded-2
+    (λ c κs. search needs) (λ c. search needs) (λ c. search needs)
     admit-command-requires
     returns-3
     returns-4)

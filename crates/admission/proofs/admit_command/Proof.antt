@@ -20,12 +20,6 @@ module _ (d : Description) (k : Command) (b : ℕ) (a : Answer) (g : Bool) (e : 
   refuses : g ≡ false → admitCommand d k b ≡ Refused a
   refuses y = rw (← e, sym t ∙ y)
 
-refused-requires : tie.Need-refused-requires
-refused-requires c κs = search needs
-
-good-requires : tie.Need-good-requires
-good-requires c κs = search needs
-
 returns : tie.Need-returns
 returns c = sym (went _ _ _ _ _ (c .before .before .refused .ensures) (c .before .good2 .ensures) (c .if1 .taken))
 
@@ -33,4 +27,5 @@ returns-2 : tie.Need-returns-2
 returns-2 c = sym (refuses _ _ _ _ _ (c .before .before .refused .ensures) (c .before .good2 .ensures) (c .if1 .left))
 
 pub admit-command-spec : {M : Type 1} → statement M
-admit-command-spec = tie.close (tie.spec refused-requires good-requires returns returns-2)
+admit-command-spec =
+    tie.close (tie.spec (λ c κs. search needs) (λ c κs. search needs) returns returns-2)

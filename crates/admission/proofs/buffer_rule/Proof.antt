@@ -6,9 +6,6 @@ use borrow.Author.Needs.{needs}
 use Rattle.admission.proofs.buffer_rule.Statement.{statement}
 use Rattle.admission.proofs.buffer_rule.Tie as tie
 
-room-requires : tie.Need-room-requires
-room-requires c κs = search needs
-
 returns : tie.Need-returns
 returns c = sym (buffer-fits _ _ _ (c .if1 .taken ∙ c .before .room .ensures))
 
@@ -16,4 +13,4 @@ returns-2 : tie.Need-returns-2
 returns-2 c = sym (buffer-unfit _ _ _ (λ e. c .if1 .left (e ∙ sym (c .before .room .ensures))))
 
 pub buffer-rule-spec : {M : Type 1} → statement M
-buffer-rule-spec = tie.close (tie.spec room-requires returns returns-2)
+buffer-rule-spec = tie.close (tie.spec (λ c κs. search needs) returns returns-2)

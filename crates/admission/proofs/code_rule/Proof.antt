@@ -1,8 +1,7 @@
 -- `admission::code_rule`: the test decides.
 -- Assumes nothing.
-use mathlib.Core.Path.{sym, _∙_}
+use mathlib.Core.Path.{sym}
 use Rattle.admission.proofs.Rules.{code-over, code-fits}
-use borrow.Author.Needs.{needs}
 use Rattle.admission.proofs.code_rule.Statement.{statement}
 use Rattle.admission.proofs.code_rule.Tie as tie
 

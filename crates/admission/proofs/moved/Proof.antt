@@ -14,9 +14,6 @@ mul-result c = omega (arith, moved-most _ (c .before .before .before .before .ar
 returns : tie.Need-returns
 returns c = sym (moved-plain _ _ (c .before .before .if1 .taken))
 
-stored-requires : tie.Need-stored-requires
-stored-requires c κs = search needs
-
 mul-result-2 : tie.Need-mul-result-2
 mul-result-2 c = rw (c .before .stored .ensures) (omega (arith, moved-most _ (c .before .before .before .before .args .c) (c .before .before .before .before .pre .0) (c .before .before .before .before .pre .1) .1))
 
@@ -24,4 +21,4 @@ returns-2 : tie.Need-returns-2
 returns-2 c = ap (λ (x : ℕ). c .before .before .before .before .args .c .length * x) (c .before .stored .ensures) ∙ sym (moved-whole _ _ (c .before .before .if1 .left))
 
 pub moved-spec : {M : Type 1} → statement M
-moved-spec = tie.close (tie.spec mul-result returns stored-requires mul-result-2 returns-2)
+moved-spec = tie.close (tie.spec mul-result returns (λ c κs. search needs) mul-result-2 returns-2)

@@ -1,6 +1,6 @@
 -- `admission::range_rule`: the end is compared by what is left of the segment, so that nothing wraps.
 -- Assumes nothing.
-use mathlib.Core.Path.{sym, _∙_}
+use mathlib.Core.Path.{sym}
 use native.Mathlib.Omega.{arith}
 use Rattle.admission.proofs.Rules.{below, above, inside}
 use borrow.Author.Needs.{needs}
@@ -19,9 +19,6 @@ returns-2 c = sym (above _ _ (c .before .before .before .if1 .left) (omega arith
 add-if3 : tie.Need-add-if3
 add-if3 c = omega (arith, c .before .before .before .before .before .before .before .pre .end)
 
-sub-if3 : tie.Need-sub-if3
-sub-if3 c = search needs
-
 returns-3 : tie.Need-returns-3
 returns-3 c = sym (above _ _ (c .before .before .before .before .before .before .before .if1 .left) (omega arith))
 
@@ -30,4 +27,4 @@ returns-4 c = sym (inside _ _ (c .before .before .before .before .before .before
 
 pub range-rule-spec : {M : Type 1} → statement M
 range-rule-spec =
-    tie.close (tie.spec returns add-if2 returns-2 add-if3 sub-if3 returns-3 returns-4)
+    tie.close (tie.spec returns add-if2 returns-2 add-if3 (λ c. search needs) returns-3 returns-4)

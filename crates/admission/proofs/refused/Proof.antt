@@ -1,109 +1,98 @@
 -- `admission::refused`: rule after rule; the first that refuses answers.
 -- Assumes nothing.
-use mathlib.Core.Path.{sym, _∙_}
-use Rattle.admission.specs.Admission.{refusal}
+use mathlib.Core.Path.{_≡_, sym, _∙_}
+use Rattle.answer.specs.Answer.{orElse}
+use Rattle.answer.specs.declared.Answer.{Answer}
+use Rattle.admission.specs.Admission.{typeRules, codeRule, checkRule, rangeRule, sizeRule, bufferRule, refusal}
 use Rattle.admission.proofs.Ladder.{stops, goes-on}
 use Rattle.admission.proofs.Ready.{short}
 use borrow.Author.Needs.{needs}
 use Rattle.admission.proofs.refused.Statement.{statement}
 use Rattle.admission.proofs.refused.Tie as tie
 
-type-rules-requires : tie.Need-type-rules-requires
-type-rules-requires c κs = search needs
+-- where the function began, seen from below each rule
+abbrev from1 : tie.Else1 → tie.Start
+from1 c = c .before .before .before
 
-good-requires : tie.Need-good-requires
-good-requires c κs = search needs
+abbrev from2 : tie.Else2 → tie.Start
+from2 c = from1 (c .before .before .before)
+
+abbrev from3 : tie.Else3 → tie.Start
+from3 c = from2 (c .before .before .before)
+
+abbrev from4 : tie.Else4 → tie.Start
+from4 c = from3 (c .before .before .before)
+
+-- the ladder as it goes on below each rule
+abbrev sizes : tie.Start → Answer
+sizes s = orElse (sizeRule (s .args .d) (s .args .c)) (bufferRule (s .args .d) (s .args .c) (s .args .buffer))
+
+abbrev ranges : tie.Start → Answer
+ranges s = orElse (rangeRule (s .args .d) (s .args .c)) (sizes s)
+
+abbrev checks : tie.Start → Answer
+checks s = orElse (checkRule (s .args .c)) (ranges s)
+
+abbrev codes : tie.Start → Answer
+codes s = orElse (codeRule (s .args .c)) (checks s)
+
+abbrev all : tie.Start → Answer
+all s = refusal (s .args .d) (s .args .c) (s .args .buffer)
+
+below1 : (c : tie.Else1) → all (from1 c) ≡ codes (from1 c)
+unfolding refusal
+below1 c = goes-on _ _ _ _ (c .before .before .type-rules .ensures) (c .before .good2 .ensures) (c .if1 .left)
+
+below2 : (c : tie.Else2) → all (from2 c) ≡ checks (from2 c)
+below2 c = below1 (c .before .before .before) ∙ goes-on _ _ _ _ (c .before .before .code-rule .ensures) (c .before .good3 .ensures) (c .if2 .left)
+
+below3 : (c : tie.Else3) → all (from3 c) ≡ ranges (from3 c)
+below3 c = below2 (c .before .before .before) ∙ goes-on _ _ _ _ (c .before .before .check-rule .ensures) (c .before .good4 .ensures) (c .if3 .left)
+
+below4 : (c : tie.Else4) → all (from4 c) ≡ sizes (from4 c)
+below4 c = below3 (c .before .before .before) ∙ goes-on _ _ _ _ (c .before .before .range-rule .ensures) (c .before .good5 .ensures) (c .if4 .left)
 
 returns : tie.Need-returns
 unfolding refusal
-returns c = sym
-    (stops _ _ _ _ (c .before .before .type-rules .ensures) (c .before .good2 .ensures) (c .if1 .taken))
-
-code-rule-requires : tie.Need-code-rule-requires
-code-rule-requires c κs = search needs
-
-good-requires-2 : tie.Need-good-requires-2
-good-requires-2 c κs = search needs
+returns c = sym (stops _ _ _ _ (c .before .before .type-rules .ensures) (c .before .good2 .ensures) (c .if1 .taken))
 
 returns-2 : tie.Need-returns-2
-unfolding refusal
-returns-2 c = sym
-    (goes-on _ _ _ _ (c .before .before .before .before .before .type-rules .ensures) (c .before .before .before .before .good2 .ensures) (c .before .before .before .if1 .left)
-    ∙ stops _ _ _ _ (c .before .before .code-rule .ensures) (c .before .good3 .ensures) (c .if2 .taken))
-
-check-rule-requires : tie.Need-check-rule-requires
-check-rule-requires c κs = search needs
-
-good-requires-3 : tie.Need-good-requires-3
-good-requires-3 c κs = search needs
+returns-2 c = sym (below1 (c .before .before .before) ∙ stops _ _ _ _ (c .before .before .code-rule .ensures) (c .before .good3 .ensures) (c .if2 .taken))
 
 returns-3 : tie.Need-returns-3
-unfolding refusal
-returns-3 c = sym
-    (goes-on _ _ _ _ (c .before .before .before .before .before .before .before .before .type-rules .ensures) (c .before .before .before .before .before .before .before .good2 .ensures) (c .before .before .before .before .before .before .if1 .left)
-    ∙ goes-on _ _ _ _ (c .before .before .before .before .before .code-rule .ensures) (c .before .before .before .before .good3 .ensures) (c .before .before .before .if2 .left)
-    ∙ stops _ _ _ _ (c .before .before .check-rule .ensures) (c .before .good4 .ensures) (c .if3 .taken))
-
-range-rule-requires : tie.Need-range-rule-requires
-range-rule-requires c κs = search needs
-
-good-requires-4 : tie.Need-good-requires-4
-good-requires-4 c κs = search needs
+returns-3 c = sym (below2 (c .before .before .before) ∙ stops _ _ _ _ (c .before .before .check-rule .ensures) (c .before .good4 .ensures) (c .if3 .taken))
 
 returns-4 : tie.Need-returns-4
-unfolding refusal
-returns-4 c = sym
-    (goes-on _ _ _ _ (c .before .before .before .before .before .before .before .before .before .before .before .type-rules .ensures) (c .before .before .before .before .before .before .before .before .before .before .good2 .ensures) (c .before .before .before .before .before .before .before .before .before .if1 .left)
-    ∙ goes-on _ _ _ _ (c .before .before .before .before .before .before .before .before .code-rule .ensures) (c .before .before .before .before .before .before .before .good3 .ensures) (c .before .before .before .before .before .before .if2 .left)
-    ∙ goes-on _ _ _ _ (c .before .before .before .before .before .check-rule .ensures) (c .before .before .before .before .good4 .ensures) (c .before .before .before .if3 .left)
-    ∙ stops _ _ _ _ (c .before .before .range-rule .ensures) (c .before .good5 .ensures) (c .if4 .taken))
+returns-4 c = sym (below3 (c .before .before .before) ∙ stops _ _ _ _ (c .before .before .range-rule .ensures) (c .before .good5 .ensures) (c .if4 .taken))
 
 size-rule-requires : tie.Need-size-rule-requires
-size-rule-requires c κs = (c .before .before .before .before .before .before .before .before .before .before .before .before .pre, short _ _ _ _ (c .before .before .before .before .before .before .before .before .before .before .before .before .pre) (c .before .before .range-rule .ensures) (c .before .good5 .ensures) (c .if4 .left))
-
-good-requires-5 : tie.Need-good-requires-5
-good-requires-5 c κs = search needs
+size-rule-requires c κs = (from4 c .pre, short _ _ _ _ (from4 c .pre) (c .before .before .range-rule .ensures) (c .before .good5 .ensures) (c .if4 .left))
 
 returns-5 : tie.Need-returns-5
-unfolding refusal
-returns-5 c = sym
-    (goes-on _ _ _ _ (c .before .before .before .before .before .before .before .before .before .before .before .before .before .before .type-rules .ensures) (c .before .before .before .before .before .before .before .before .before .before .before .before .before .good2 .ensures) (c .before .before .before .before .before .before .before .before .before .before .before .before .if1 .left)
-    ∙ goes-on _ _ _ _ (c .before .before .before .before .before .before .before .before .before .before .before .code-rule .ensures) (c .before .before .before .before .before .before .before .before .before .before .good3 .ensures) (c .before .before .before .before .before .before .before .before .before .if2 .left)
-    ∙ goes-on _ _ _ _ (c .before .before .before .before .before .before .before .before .check-rule .ensures) (c .before .before .before .before .before .before .before .good4 .ensures) (c .before .before .before .before .before .before .if3 .left)
-    ∙ goes-on _ _ _ _ (c .before .before .before .before .before .range-rule .ensures) (c .before .before .before .before .good5 .ensures) (c .before .before .before .if4 .left)
-    ∙ stops _ _ _ _ (c .before .before .size-rule .ensures) (c .before .good6 .ensures) (c .if5 .taken))
+returns-5 c = sym (below4 (c .before .before .before) ∙ stops _ _ _ _ (c .before .before .size-rule .ensures) (c .before .good6 .ensures) (c .if5 .taken))
 
 buffer-rule-requires : tie.Need-buffer-rule-requires
-buffer-rule-requires c κs = (c .before .before .before .before .before .before .before .before .before .before .before .before .before .before .before .pre, short _ _ _ _ (c .before .before .before .before .before .before .before .before .before .before .before .before .before .before .before .pre) (c .before .before .before .before .before .range-rule .ensures) (c .before .before .before .before .good5 .ensures) (c .before .before .before .if4 .left))
+buffer-rule-requires c κs = size-rule-requires (c .before .before .before) κs
 
 returns-6 : tie.Need-returns-6
-unfolding refusal
-returns-6 c = c .buffer-rule .ensures
-    ∙ sym
-    (goes-on _ _ _ _ (c .before .before .before .before .before .before .before .before .before .before .before .before .before .before .before .type-rules .ensures) (c .before .before .before .before .before .before .before .before .before .before .before .before .before .before .good2 .ensures) (c .before .before .before .before .before .before .before .before .before .before .before .before .before .if1 .left)
-    ∙ goes-on _ _ _ _ (c .before .before .before .before .before .before .before .before .before .before .before .before .code-rule .ensures) (c .before .before .before .before .before .before .before .before .before .before .before .good3 .ensures) (c .before .before .before .before .before .before .before .before .before .before .if2 .left)
-    ∙ goes-on _ _ _ _ (c .before .before .before .before .before .before .before .before .before .check-rule .ensures) (c .before .before .before .before .before .before .before .before .good4 .ensures) (c .before .before .before .before .before .before .before .if3 .left)
-    ∙ goes-on _ _ _ _ (c .before .before .before .before .before .before .range-rule .ensures) (c .before .before .before .before .before .good5 .ensures) (c .before .before .before .before .if4 .left)
-    ∙ goes-on _ _ _ _ (c .before .before .before .size-rule .ensures) (c .before .before .good6 .ensures) (c .before .if5 .left))
+returns-6 c =
+    let last = c .before in
+    c .buffer-rule .ensures ∙ sym (below4 (last .before .before .before) ∙ goes-on _ _ _ _ (last .before .before .size-rule .ensures) (last .before .good6 .ensures) (last .if5 .left))
 
 pub refused-spec : {M : Type 1} → statement M
 refused-spec =
     tie.close
     (tie.spec
-    type-rules-requires
-    good-requires
+    (λ c κs. search needs) (λ c κs. search needs)
     returns
-    code-rule-requires
-    good-requires-2
+    (λ c κs. search needs) (λ c κs. search needs)
     returns-2
-    check-rule-requires
-    good-requires-3
+    (λ c κs. search needs) (λ c κs. search needs)
     returns-3
-    range-rule-requires
-    good-requires-4
+    (λ c κs. search needs) (λ c κs. search needs)
     returns-4
     size-rule-requires
-    good-requires-5
+    (λ c κs. search needs)
     returns-5
     buffer-rule-requires
     returns-6)

@@ -10,18 +10,6 @@ use Rattle.admission.proofs.room.Tie as tie
 enum-told : tie.Need-enum-told
 enum-told c = search needs
 
-moved-requires : tie.Need-moved-requires
-moved-requires c κs = search needs
-
-enum-told-2 : tie.Need-enum-told-2
-enum-told-2 c = search needs
-
-moved-requires-2 : tie.Need-moved-requires-2
-moved-requires-2 c κs = search needs
-
-enum-told-3 : tie.Need-enum-told-3
-enum-told-3 c = search needs
-
 returns : tie.Need-returns
 returns c = c .moved .ensures ∙ sym (room-moved _ _ (ap isVerify (c .before .enum-told .given .1)))
 
@@ -36,10 +24,7 @@ room-spec =
     tie.close
     (tie.spec
     enum-told
-    moved-requires
-    enum-told-2
-    moved-requires-2
-    enum-told-3
+    (λ c κs. search needs) (λ c. search needs) (λ c κs. search needs) (λ c. search needs)
     returns
     returns-2
     returns-3)

@@ -1,13 +1,10 @@
 -- `admission::size_rule`: the test decides.
 -- Assumes nothing.
-use mathlib.Core.Path.{sym, _∙_}
+use mathlib.Core.Path.{sym}
 use Rattle.admission.proofs.Rules.{size-over, size-fits}
 use borrow.Author.Needs.{needs}
 use Rattle.admission.proofs.size_rule.Statement.{statement}
 use Rattle.admission.proofs.size_rule.Tie as tie
-
-moved-requires : tie.Need-moved-requires
-moved-requires c κs = search needs
 
 returns : tie.Need-returns
 returns c = sym (size-over _ _ (rw (c .before .moved .ensures) at (c .if1 .taken)))
@@ -16,4 +13,4 @@ returns-2 : tie.Need-returns-2
 returns-2 c = sym (size-fits _ _ (rw (c .before .moved .ensures) at (c .if1 .left)))
 
 pub size-rule-spec : {M : Type 1} → statement M
-size-rule-spec = tie.close (tie.spec moved-requires returns returns-2)
+size-rule-spec = tie.close (tie.spec (λ c κs. search needs) returns returns-2)

@@ -1,8 +1,7 @@
 -- `admission::type_rules`: each return is one of the rules.
 -- Assumes nothing.
-use mathlib.Core.Path.{sym, _∙_}
+use mathlib.Core.Path.{sym}
 use Rattle.admission.proofs.Rules.{long-two, long-other, short-two, short-zero, plain-code, short-other}
-use borrow.Author.Needs.{needs}
 use Rattle.admission.proofs.type_rules.Statement.{statement}
 use Rattle.admission.proofs.type_rules.Tie as tie
 

@@ -46,35 +46,11 @@ add-e c = omega (arith, room (c .before .loop .inv) (c .loop-test .taken))
 add-e-2 : tie.Need-add-e-2 Inv-loop μ-loop
 add-e-2 c = omega (arith, room (c .before .loop .inv) (c .loop-test .taken))
 
-sub-insert-interval : tie.Need-sub-insert-interval Inv-loop μ-loop
-sub-insert-interval c = search needs
-
-part-insert-interval-start : tie.Need-part-insert-interval-start Inv-loop μ-loop
-part-insert-interval-start c = search needs
-
 part-insert-interval-end : tie.Need-part-insert-interval-end Inv-loop μ-loop
 part-insert-interval-end c = omega (arith, room (c .before .loop .inv) (c .loop-test .taken))
 
-sub-insert-interval-2 : tie.Need-sub-insert-interval-2 Inv-loop μ-loop
-sub-insert-interval-2 c = search needs
-
-part-insert-interval-start-2 : tie.Need-part-insert-interval-start-2 Inv-loop μ-loop
-part-insert-interval-start-2 c = search needs
-
 part-insert-interval-end-2 : tie.Need-part-insert-interval-end-2 Inv-loop μ-loop
 part-insert-interval-end-2 c = within (c .before .before .loop .inv) (c .before .loop-test .taken)
-
-insert-interval-requires : tie.Need-insert-interval-requires Inv-loop μ-loop
-insert-interval-requires c κs = search needs
-
-wrapping-add-u32-requires : tie.Need-wrapping-add-u32-requires Inv-loop μ-loop
-wrapping-add-u32-requires c κs = search needs
-
-sub-left : tie.Need-sub-left Inv-loop μ-loop
-sub-left c = search needs
-
-loop-less : tie.Need-loop-less Inv-loop μ-loop
-loop-less c = search needs
 
 loop-again : tie.Need-loop-again Inv-loop μ-loop
 loop-again c =
@@ -102,16 +78,11 @@ insert-block-spec =
     add-j
     add-e
     add-e-2
-    sub-insert-interval
-    part-insert-interval-start
+    (λ c. search needs) (λ c. search needs)
     part-insert-interval-end
-    sub-insert-interval-2
-    part-insert-interval-start-2
+    (λ c. search needs) (λ c. search needs)
     part-insert-interval-end-2
-    insert-interval-requires
-    wrapping-add-u32-requires
-    sub-left
-    loop-less
+    (λ c κs. search needs) (λ c κs. search needs) (λ c. search needs) (λ c. search needs)
     loop-again
     same-length
     returns)

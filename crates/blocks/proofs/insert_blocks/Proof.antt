@@ -1,6 +1,6 @@
 -- `blocks::insert_blocks`: one stored block after the other is put in its place.
 -- Assumes nothing.
-use mathlib.Core.Path.{refl, _∙_}
+use mathlib.Core.Path.{refl}
 use Prim.Native.Nat.{_+_, _*_, _≤_}
 use native.Mathlib.Nat.{mul-le-mul, le-of-eq}
 use native.Mathlib.Omega.{arith}
@@ -24,17 +24,11 @@ abbrev μ-loop : tie.MeasureT-loop
 mul-part : tie.Need-mul-part Inv-loop μ-loop
 mul-part c = let small = c .before .before .pre .1 .1 .1 in omega (arith, mul-le-mul (small .1) (small .0))
 
-add-stored : tie.Need-add-stored Inv-loop μ-loop
-add-stored c = search needs
-
 mul-stored : tie.Need-mul-stored Inv-loop μ-loop
 mul-stored c =
     let small = c .before .before .pre .1 .1 .1 in
     let wide : c .before .before .args .size + 8 ≤ 4104 = omega arith in
     omega (arith, mul-le-mul (small .1) wide)
-
-cast-by : tie.Need-cast-by Inv-loop μ-loop
-cast-by c = search needs
 
 mul-by : tie.Need-mul-by Inv-loop μ-loop
 mul-by c = let small = c .before .before .pre .1 .1 .1 in omega (arith, mul-le-mul (small .1) (small .2))
@@ -51,35 +45,11 @@ add-j c = omega (arith, within (c .before .loop .inv) (c .loop-test .taken), c .
 add-e : tie.Need-add-e Inv-loop μ-loop
 add-e c = omega (arith, room (c .before .loop .inv) (c .loop-test .taken))
 
-sub-insert-block : tie.Need-sub-insert-block Inv-loop μ-loop
-sub-insert-block c = search needs
-
-part-insert-block-start : tie.Need-part-insert-block-start Inv-loop μ-loop
-part-insert-block-start c = search needs
-
 part-insert-block-end : tie.Need-part-insert-block-end Inv-loop μ-loop
 part-insert-block-end c = room (c .before .loop .inv) (c .loop-test .taken)
 
-sub-insert-block-2 : tie.Need-sub-insert-block-2 Inv-loop μ-loop
-sub-insert-block-2 c = search needs
-
-part-insert-block-start-2 : tie.Need-part-insert-block-start-2 Inv-loop μ-loop
-part-insert-block-start-2 c = search needs
-
 part-insert-block-end-2 : tie.Need-part-insert-block-end-2 Inv-loop μ-loop
 part-insert-block-end-2 c = within (c .before .before .loop .inv) (c .before .loop-test .taken)
-
-insert-block-requires : tie.Need-insert-block-requires Inv-loop μ-loop
-insert-block-requires c κs = search needs
-
-wrapping-add-u32-requires : tie.Need-wrapping-add-u32-requires Inv-loop μ-loop
-wrapping-add-u32-requires c κs = search needs
-
-sub-left : tie.Need-sub-left Inv-loop μ-loop
-sub-left c = search needs
-
-loop-less : tie.Need-loop-less Inv-loop μ-loop
-loop-less c = search needs
 
 loop-again : tie.Need-loop-again Inv-loop μ-loop
 loop-again c =
@@ -102,23 +72,18 @@ insert-blocks-spec =
     Inv-loop
     μ-loop
     mul-part
-    add-stored
+    (λ c. search needs)
     mul-stored
-    cast-by
+    (λ c. search needs)
     mul-by
     loop-holds
     add-j
     add-e
-    sub-insert-block
-    part-insert-block-start
+    (λ c. search needs) (λ c. search needs)
     part-insert-block-end
-    sub-insert-block-2
-    part-insert-block-start-2
+    (λ c. search needs) (λ c. search needs)
     part-insert-block-end-2
-    insert-block-requires
-    wrapping-add-u32-requires
-    sub-left
-    loop-less
+    (λ c κs. search needs) (λ c κs. search needs) (λ c. search needs) (λ c. search needs)
     loop-again
     same-length
     returns)

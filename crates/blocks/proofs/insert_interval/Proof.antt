@@ -46,35 +46,11 @@ interval-made m g s d d₁ d₂ d₃ d₄ room e₁ eg e₂ e₃ e₄ =
     sym (take-all n d₄ (omega (arith, w₄ .long))) ∙ w₄ .upto
     ∙ rw (take-length, append-assoc (s ++ bytes 2 g), append-assoc s, eg)
 
-slice-relend-prefix-copy : tie.Need-slice-relend-prefix-copy
-slice-relend-prefix-copy c = search needs
-
 slice-aggregate-copy : tie.Need-slice-aggregate-copy
 slice-aggregate-copy c = sym (length-take-le _ _ (search needs))
 
 copy-requires : tie.Need-copy-requires
 copy-requires c κs = sym (length-take-le _ _ (search needs))
-
-guard-through-requires : tie.Need-guard-through-requires
-guard-through-requires c κs = search needs
-
-write2-requires : tie.Need-write2-requires
-write2-requires c κs = search needs
-
-add-write2 : tie.Need-add-write2
-add-write2 c = search needs
-
-write2-requires-2 : tie.Need-write2-requires-2
-write2-requires-2 c κs = search needs
-
-add-write4 : tie.Need-add-write4
-add-write4 c = search needs
-
-write4-requires : tie.Need-write4-requires
-write4-requires c κs = search needs
-
-same-length : tie.Need-same-length
-same-length c = search needs
 
 returns : tie.Need-returns
 returns c =
@@ -95,14 +71,9 @@ pub insert-interval-spec : {M : Type 1} → statement M
 insert-interval-spec =
     tie.close
     (tie.spec
-    slice-relend-prefix-copy
+    (λ c. search needs)
     slice-aggregate-copy
     copy-requires
-    guard-through-requires
-    write2-requires
-    add-write2
-    write2-requires-2
-    add-write4
-    write4-requires
-    same-length
+    (λ c κs. search needs) (λ c κs. search needs) (λ c. search needs) (λ c κs. search needs)
+    (λ c. search needs) (λ c κs. search needs) (λ c. search needs)
     returns)

@@ -8,7 +8,7 @@ use lib.ListN.{take}
 use borrow.Author.Needs.{needs}
 use Rattle.words.specs.Parts.{put}
 use Rattle.blocks.proofs.Filling.{Filling, within, room, turn, done, begin}
-use Rattle.blocks.proofs.Places.{cut}
+use Rattle.words.proofs.Parts.{part-at}
 use Rattle.blocks.proofs.Pieces.{runs-same}
 use Rattle.blocks.proofs.store_blocks.Statement.{statement}
 use Rattle.blocks.proofs.store_blocks.Tie as tie
@@ -31,37 +31,16 @@ add-j c = omega (arith, within (c .before .loop .inv) (c .loop-test .taken), c .
 add-e : tie.Need-add-e Inv-loop μ-loop
 add-e c = omega (arith, room (c .before .loop .inv) (c .loop-test .taken))
 
-sub-copy : tie.Need-sub-copy Inv-loop μ-loop
-sub-copy c = search needs
-
-part-copy-start : tie.Need-part-copy-start Inv-loop μ-loop
-part-copy-start c = search needs
-
 part-copy-end : tie.Need-part-copy-end Inv-loop μ-loop
 part-copy-end c = room (c .before .loop .inv) (c .loop-test .taken)
-
-sub-copy-2 : tie.Need-sub-copy-2 Inv-loop μ-loop
-sub-copy-2 c = search needs
-
-part-copy-start-2 : tie.Need-part-copy-start-2 Inv-loop μ-loop
-part-copy-start-2 c = search needs
 
 part-copy-end-2 : tie.Need-part-copy-end-2 Inv-loop μ-loop
 part-copy-end-2 c = omega (arith, within (c .before .before .loop .inv) (c .before .loop-test .taken))
 
-copy-requires : tie.Need-copy-requires Inv-loop μ-loop
-copy-requires c κs = search needs
-
-sub-left : tie.Need-sub-left Inv-loop μ-loop
-sub-left c = search needs
-
-loop-less : tie.Need-loop-less Inv-loop μ-loop
-loop-less c = search needs
-
 loop-again : tie.Need-loop-again Inv-loop μ-loop
 loop-again c =
     let l = c .before .before .before .before .before .before .loop in
-    turn (l .inv) _ _ (c .before .before .before .before .before .loop-test .taken) (c .before .segment .given .0) (c .before .before .copy .ensures ∙ cut (l .i) _ _) refl
+    turn (l .inv) _ _ (c .before .before .before .before .before .loop-test .taken) (c .before .segment .given .0) (c .before .before .copy .ensures ∙ part-at (l .i) _ _) refl
 
 same-length : tie.Need-same-length Inv-loop μ-loop
 same-length c = c .before .loop .inv .kept
@@ -78,15 +57,11 @@ store-blocks-spec =
     loop-holds
     add-j
     add-e
-    sub-copy
-    part-copy-start
+    (λ c. search needs) (λ c. search needs)
     part-copy-end
-    sub-copy-2
-    part-copy-start-2
+    (λ c. search needs) (λ c. search needs)
     part-copy-end-2
-    copy-requires
-    sub-left
-    loop-less
+    (λ c κs. search needs) (λ c. search needs) (λ c. search needs)
     loop-again
     same-length
     returns)

@@ -10,7 +10,8 @@ use borrow.Author.Needs.{needs}
 use Rattle.words.specs.Parts.{put}
 use Rattle.blocks.specs.Blocks.{stripped}
 use Rattle.blocks.proofs.Filling.{Filling, within, room, turn, done, begin}
-use Rattle.blocks.proofs.Places.{put-all, cut}
+use Rattle.words.proofs.Parts.{part-at}
+use Rattle.blocks.proofs.Places.{put-all}
 use Rattle.blocks.proofs.Laws.{stripped-length}
 use Rattle.blocks.proofs.strip.Statement.{statement}
 use Rattle.blocks.proofs.strip.Tie as tie
@@ -34,26 +35,11 @@ add-m c = omega (arith, within (c .before .loop .inv) (c .loop-test .taken), c .
 add-e : tie.Need-add-e Inv-loop μ-loop
 add-e c = omega (arith, room (c .before .loop .inv) (c .loop-test .taken))
 
-sub-copy : tie.Need-sub-copy Inv-loop μ-loop
-sub-copy c = search needs
-
-part-copy-start : tie.Need-part-copy-start Inv-loop μ-loop
-part-copy-start c = search needs
-
 part-copy-end : tie.Need-part-copy-end Inv-loop μ-loop
 part-copy-end c = room (c .before .loop .inv) (c .loop-test .taken)
 
-sub-copy-2 : tie.Need-sub-copy-2 Inv-loop μ-loop
-sub-copy-2 c = search needs
-
-part-copy-start-2 : tie.Need-part-copy-start-2 Inv-loop μ-loop
-part-copy-start-2 c = search needs
-
 part-copy-end-2 : tie.Need-part-copy-end-2 Inv-loop μ-loop
 part-copy-end-2 c = omega (arith, within (c .before .before .loop .inv) (c .before .loop-test .taken))
-
-copy-requires : tie.Need-copy-requires Inv-loop μ-loop
-copy-requires c κs = search needs
 
 add-i : tie.Need-add-i Inv-loop μ-loop
 add-i c = omega (arith, within (c .before .before .before .before .before .before .loop .inv) (c .before .before .before .before .before .loop-test .taken))
@@ -61,19 +47,10 @@ add-i c = omega (arith, within (c .before .before .before .before .before .befor
 add-i-2 : tie.Need-add-i-2 Inv-loop μ-loop
 add-i-2 c = omega (arith, within (c .before .before .before .before .before .before .loop .inv) (c .before .before .before .before .before .loop-test .taken))
 
-sub-left : tie.Need-sub-left Inv-loop μ-loop
-sub-left c = search needs
-
-loop-less : tie.Need-loop-less Inv-loop μ-loop
-loop-less c = search needs
-
 loop-again : tie.Need-loop-again Inv-loop μ-loop
 loop-again c =
     let l = c .before .before .before .before .before .before .loop in
-    turn (l .inv) _ _ (c .before .before .before .before .before .loop-test .taken) (c .before .d .given .0) (c .before .before .copy .ensures ∙ cut (l .i) _ _) refl
-
-same-length : tie.Need-same-length Inv-loop μ-loop
-same-length c = search needs
+    turn (l .inv) _ _ (c .before .before .before .before .before .loop-test .taken) (c .before .d .given .0) (c .before .before .copy .ensures ∙ part-at (l .i) _ _) refl
 
 returns : tie.Need-returns Inv-loop μ-loop
 returns c =
@@ -89,17 +66,14 @@ strip-spec =
     loop-holds
     add-m
     add-e
-    sub-copy
-    part-copy-start
+    (λ c. search needs) (λ c. search needs)
     part-copy-end
-    sub-copy-2
-    part-copy-start-2
+    (λ c. search needs) (λ c. search needs)
     part-copy-end-2
-    copy-requires
+    (λ c κs. search needs)
     add-i
     add-i-2
-    sub-left
-    loop-less
+    (λ c. search needs) (λ c. search needs)
     loop-again
-    same-length
+    (λ c. search needs)
     returns)

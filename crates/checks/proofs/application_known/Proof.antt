@@ -5,12 +5,9 @@ use borrow.Author.Needs.{needs}
 use Rattle.checks.proofs.application_known.Statement.{statement}
 use Rattle.checks.proofs.application_known.Tie as tie
 
-both-requires : tie.Need-both-requires
-both-requires c κs = search needs
-
 returns : tie.Need-returns
 unfolding applicationKnown
 returns c = c .both .ensures
 
 pub application-known-spec : {M : Type 1} → statement M
-application-known-spec = tie.close (tie.spec both-requires returns)
+application-known-spec = tie.close (tie.spec (λ c κs. search needs) returns)

@@ -1,32 +1,11 @@
 -- `checks::chosen`: each code is one row of the table.
 -- Assumes nothing.
-use mathlib.Core.Path.{_≡_, refl, sym, ap, _∙_}
+use mathlib.Core.Path.{sym, _∙_}
 use Rattle.checks.specs.Checks.{columnsOf}
 use Rattle.checks.proofs.Laws.{no-code}
 use borrow.Author.Needs.{needs}
 use Rattle.checks.proofs.chosen.Statement.{statement}
 use Rattle.checks.proofs.chosen.Tie as tie
-
-of-columns-requires : tie.Need-of-columns-requires
-of-columns-requires c κs = search needs
-
-of-columns-requires-2 : tie.Need-of-columns-requires-2
-of-columns-requires-2 c κs = search needs
-
-of-columns-requires-3 : tie.Need-of-columns-requires-3
-of-columns-requires-3 c κs = search needs
-
-of-columns-requires-4 : tie.Need-of-columns-requires-4
-of-columns-requires-4 c κs = search needs
-
-of-columns-requires-5 : tie.Need-of-columns-requires-5
-of-columns-requires-5 c κs = search needs
-
-of-columns-requires-6 : tie.Need-of-columns-requires-6
-of-columns-requires-6 c κs = search needs
-
-of-columns-requires-7 : tie.Need-of-columns-requires-7
-of-columns-requires-7 c κs = search needs
 
 returns : tie.Need-returns
 unfolding columnsOf
@@ -59,13 +38,8 @@ pub chosen-spec : {M : Type 1} → statement M
 chosen-spec =
     tie.close
     (tie.spec
-    of-columns-requires
-    of-columns-requires-2
-    of-columns-requires-3
-    of-columns-requires-4
-    of-columns-requires-5
-    of-columns-requires-6
-    of-columns-requires-7
+    (λ c κs. search needs) (λ c κs. search needs) (λ c κs. search needs) (λ c κs. search needs)
+    (λ c κs. search needs) (λ c κs. search needs) (λ c κs. search needs)
     returns
     returns-2
     returns-3

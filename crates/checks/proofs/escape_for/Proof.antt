@@ -1,6 +1,6 @@
 -- `checks::escape_for`: the operation decides.
 -- Assumes nothing.
-use mathlib.Core.Path.{_≡_, refl, sym, ap, _∙_}
+use mathlib.Core.Path.{sym, _∙_}
 use Rattle.checks.proofs.Laws.{escape-by}
 use borrow.Author.Needs.{needs}
 use Rattle.checks.proofs.escape_for.Statement.{statement}
@@ -8,18 +8,6 @@ use Rattle.checks.proofs.escape_for.Tie as tie
 
 enum-told : tie.Need-enum-told
 enum-told c = search needs
-
-stored-escape-requires : tie.Need-stored-escape-requires
-stored-escape-requires c κs = search needs
-
-enum-told-2 : tie.Need-enum-told-2
-enum-told-2 c = search needs
-
-enum-told-3 : tie.Need-enum-told-3
-enum-told-3 c = search needs
-
-stored-escape-requires-2 : tie.Need-stored-escape-requires-2
-stored-escape-requires-2 c κs = search needs
 
 returns : tie.Need-returns
 returns c = c .stored-escape .ensures ∙ sym (escape-by _ _ _ (c .before .enum-told .given .1))
@@ -35,10 +23,7 @@ escape-for-spec =
     tie.close
     (tie.spec
     enum-told
-    stored-escape-requires
-    enum-told-2
-    enum-told-3
-    stored-escape-requires-2
+    (λ c κs. search needs) (λ c. search needs) (λ c. search needs) (λ c κs. search needs)
     returns
     returns-2
     returns-3)

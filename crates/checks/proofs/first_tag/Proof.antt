@@ -1,13 +1,10 @@
 -- `checks::first_tag`: the type decides.
 -- Assumes nothing.
-use mathlib.Core.Path.{_≡_, refl, sym, ap, _∙_}
+use mathlib.Core.Path.{sym}
 use Rattle.checks.proofs.Laws.{tag-one, tag-other}
 use borrow.Author.Needs.{needs}
 use Rattle.checks.proofs.first_tag.Statement.{statement}
 use Rattle.checks.proofs.first_tag.Tie as tie
-
-cast-result : tie.Need-cast-result
-cast-result c = search needs
 
 returns : tie.Need-returns
 returns c = sym (tag-one _ _ (c .before .if1 .taken))
@@ -16,4 +13,4 @@ returns-2 : tie.Need-returns-2
 returns-2 c = sym (tag-other _ _ (c .if1 .left))
 
 pub first-tag-spec : {M : Type 1} → statement M
-first-tag-spec = tie.close (tie.spec cast-result returns returns-2)
+first-tag-spec = tie.close (tie.spec (λ c. search needs) returns returns-2)

@@ -1,9 +1,7 @@
 -- `checks::inserted_application`: ATO and the size of the command decide.
 -- Assumes nothing.
-use mathlib.Core.Path.{_≡_, refl, sym, ap, _∙_}
-use mathlib.Core.Bool.{Bool, cond}
+use mathlib.Core.Path.{sym}
 use Rattle.checks.proofs.Laws.{application-off, application-tag, application-none}
-use borrow.Author.Needs.{needs}
 use Rattle.checks.proofs.inserted_application.Statement.{statement}
 use Rattle.checks.proofs.inserted_application.Tie as tie
 

@@ -2,25 +2,18 @@
 -- Assumes nothing.
 use native.Mathlib.Nat.{mod-lt}
 use lib.Dec.{lit<}
-use mathlib.Core.Path.{_≡_, refl, sym, ap, _∙_}
-use mathlib.Core.Bool.{Bool, cond}
+use mathlib.Core.Path.{sym}
 use native.Mathlib.Omega.{arith}
 use Rattle.checks.proofs.Laws.{inserted-one, inserted-tag, inserted-address, inserted-none, product-small}
 use borrow.Author.Needs.{needs}
 use Rattle.checks.proofs.inserted_reference.Statement.{statement}
 use Rattle.checks.proofs.inserted_reference.Tie as tie
 
-cast-result : tie.Need-cast-result
-cast-result c = search needs
-
 returns : tie.Need-returns
 returns c = sym (inserted-one _ _ (c .before .if1 .taken))
 
 returns-2 : tie.Need-returns-2
 returns-2 c = sym (inserted-tag _ _ (c .before .if2 .taken) (c .if3 .taken))
-
-intervals-requires : tie.Need-intervals-requires
-intervals-requires c κs = search needs
 
 mul-result : tie.Need-mul-result
 mul-result c = omega (arith, product-small (c .before .before .before .before .before .before .before .args .d) (c .before .before .before .before .before .before .before .args .c) (c .before .before .before .before .before .before .before .args .c .address) _ (c .before .before .before .before .before .before .before .pre) (c .intervals .ensures))
@@ -38,10 +31,10 @@ pub inserted-reference-spec : {M : Type 1} → statement M
 inserted-reference-spec =
     tie.close
     (tie.spec
-    cast-result
+    (λ c. search needs)
     returns
     returns-2
-    intervals-requires
+    (λ c κs. search needs)
     mul-result
     cast-result-2
     returns-3

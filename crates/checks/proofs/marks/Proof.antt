@@ -6,12 +6,6 @@ use borrow.Author.Needs.{needs}
 use Rattle.checks.proofs.marks.Statement.{statement}
 use Rattle.checks.proofs.marks.Tie as tie
 
-inserted-application-requires : tie.Need-inserted-application-requires
-inserted-application-requires c κs = search needs
-
-inserted-reference-requires : tie.Need-inserted-reference-requires
-inserted-reference-requires c κs = search needs
-
 returns : tie.Need-returns
 returns c = marks-are _ _ _ _ 0 (c .before .before .before .inserted-application .ensures) (c .before .before .inserted-reference .ensures) (rw (c .if1 .taken))
 
@@ -19,6 +13,4 @@ returns-2 : tie.Need-returns-2
 returns-2 c = marks-are _ _ _ _ 1 (c .before .before .before .inserted-application .ensures) (c .before .before .inserted-reference .ensures) (rw (ne-eqb _ 3 (c .if1 .left)))
 
 pub marks-spec : {M : Type 1} → statement M
-marks-spec =
-    tie.close
-    (tie.spec inserted-application-requires inserted-reference-requires returns returns-2)
+marks-spec = tie.close (tie.spec (λ c κs. search needs) (λ c κs. search needs) returns returns-2)

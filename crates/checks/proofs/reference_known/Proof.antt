@@ -1,8 +1,7 @@
 -- `checks::reference_known`: the type decides.
 -- Assumes nothing.
-use mathlib.Core.Path.{_≡_, refl, sym, ap, _∙_}
+use mathlib.Core.Path.{sym}
 use Rattle.checks.proofs.Laws.{reference-one, reference-two, reference-none}
-use borrow.Author.Needs.{needs}
 use Rattle.checks.proofs.reference_known.Statement.{statement}
 use Rattle.checks.proofs.reference_known.Tie as tie
 

@@ -1,7 +1,6 @@
 -- `checks::stored_escape`: the type decides.
 -- Assumes nothing.
 use borrow.Author.Tests.{ne-eqb}
-use borrow.Author.Needs.{needs}
 use Rattle.checks.proofs.stored_escape.Statement.{statement}
 use Rattle.checks.proofs.stored_escape.Tie as tie
 

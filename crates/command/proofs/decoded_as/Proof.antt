@@ -14,14 +14,8 @@ use Rattle.command.proofs.decoded_as.Tie as tie
 bytes-of : {l m : Layout} → l ≡ m → l .bytes ≡ m .bytes
 bytes-of = ap (λ (l : Layout). l .bytes)
 
-laid-out-requires : tie.Need-laid-out-requires
-laid-out-requires c κs = search needs
-
 returns : tie.Need-returns
 returns c = sym (decode-length _ _ _ (λ e. c .if1 .taken (e ∙ sym (bytes-of (c .before .before .laid-out .ensures)))))
-
-is-long-requires : tie.Need-is-long-requires
-is-long-requires c κs = search needs
 
 shared-slice-read-if3 : tie.Need-shared-slice-read-if3
 shared-slice-read-if3 c = omega (arith, bytes-of (c .before .before .before .before .before .laid-out .ensures), within (c .before .before .before .before .before .before .before .args .f) .tags (sym (c .before .before .is-long .ensures) ∙ c .before .if2 .taken))
@@ -42,9 +36,9 @@ pub decoded-as-spec : {M : Type 1} → statement M
 decoded-as-spec =
     tie.close
     (tie.spec
-    laid-out-requires
+    (λ c κs. search needs)
     returns
-    is-long-requires
+    (λ c κs. search needs)
     shared-slice-read-if3
     returns-2
     parsed-requires

@@ -6,18 +6,6 @@ use borrow.Author.Needs.{needs}
 use Rattle.command.proofs.decoded_from.Statement.{statement}
 use Rattle.command.proofs.decoded_from.Tie as tie
 
-recognised-requires : tie.Need-recognised-requires
-recognised-requires c κs = search needs
-
-enum-known-o : tie.Need-enum-known-o
-enum-known-o c = search needs
-
-decoded-as-requires : tie.Need-decoded-as-requires
-decoded-as-requires c κs = search needs
-
-enum-known-a : tie.Need-enum-known-a
-enum-known-a c = search needs
-
 returns : tie.Need-returns
 returns c = c .decoded-as .ensures ∙ sym (decode-known _ (sym (c .before .before .before .before .recognised .ensures) ∙ c .before .before .o .given .1))
 
@@ -27,4 +15,7 @@ returns-2 c = sym (decode-unknown _ (sym (c .before .before .before .recognised 
 pub decoded-from-spec : {M : Type 1} → statement M
 decoded-from-spec =
     tie.close
-    (tie.spec recognised-requires enum-known-o decoded-as-requires enum-known-a returns returns-2)
+    (tie.spec
+    (λ c κs. search needs) (λ c. search needs) (λ c κs. search needs) (λ c. search needs)
+    returns
+    returns-2)

@@ -9,15 +9,6 @@ use Rattle.command.proofs.laid_out.Tie as tie
 enum-told : tie.Need-enum-told
 enum-told c = search needs
 
-enum-told-2 : tie.Need-enum-told-2
-enum-told-2 c = search needs
-
-enum-told-3 : tie.Need-enum-told-3
-enum-told-3 c = search needs
-
-enum-told-4 : tie.Need-enum-told-4
-enum-told-4 c = search needs
-
 returns : tie.Need-returns
 returns c = sym (ap layoutOf (c .enum-told .given .1))
 
@@ -33,4 +24,10 @@ returns-4 c = sym (ap layoutOf (c .enum-told4 .given .1))
 pub laid-out-spec : {M : Type 1} → statement M
 laid-out-spec =
     tie.close
-    (tie.spec enum-told enum-told-2 enum-told-3 enum-told-4 returns returns-2 returns-3 returns-4)
+    (tie.spec
+    enum-told
+    (λ c. search needs) (λ c. search needs) (λ c. search needs)
+    returns
+    returns-2
+    returns-3
+    returns-4)

@@ -7,23 +7,14 @@ use borrow.Author.Needs.{needs}
 use Rattle.command.proofs.parsed.Statement.{statement}
 use Rattle.command.proofs.parsed.Tie as tie
 
-laid-out-requires : tie.Need-laid-out-requires
-laid-out-requires c κs = search needs
-
 shared-slice-read-protects : tie.Need-shared-slice-read-protects
 shared-slice-read-protects c = omega (arith, laid-within (c .before .before .before .args .f) (c .before .laid-out .ensures) (c .before .before .before .pre))
-
-check-bits-requires : tie.Need-check-bits-requires
-check-bits-requires c κs = search needs
 
 read-at-requires : tie.Need-read-at-requires
 read-at-requires c κs = omega (arith, laid-within (c .before .before .before .before .args .f) (c .before .before .laid-out .ensures) (c .before .before .before .before .pre))
 
 read-at-requires-2 : tie.Need-read-at-requires-2
 read-at-requires-2 c κs = omega (arith, laid-within (c .before .before .before .before .before .args .f) (c .before .before .before .laid-out .ensures) (c .before .before .before .before .before .pre))
-
-is-long-requires : tie.Need-is-long-requires
-is-long-requires c κs = search needs
 
 read4-requires : tie.Need-read4-requires
 read4-requires c κs = omega (arith, within (c .before .before .before .before .before .before .before .before .args .f) .tags (sym (c .before .is-long .ensures) ∙ c .if1 .taken))
@@ -48,12 +39,12 @@ pub parsed-spec : {M : Type 1} → statement M
 parsed-spec =
     tie.close
     (tie.spec
-    laid-out-requires
+    (λ c κs. search needs)
     shared-slice-read-protects
-    check-bits-requires
+    (λ c κs. search needs)
     read-at-requires
     read-at-requires-2
-    is-long-requires
+    (λ c κs. search needs)
     read4-requires
     read2-requires
     read2-requires-2

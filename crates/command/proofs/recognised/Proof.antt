@@ -21,14 +21,8 @@ by-action c v r some e h n k = ap (λ (n : ℕ). find n serviceAction) (sym k �
 returns : tie.Need-returns
 returns c = sym (recognise-empty _ (c .if1 .taken))
 
-shared-slice-read-first : tie.Need-shared-slice-read-first
-shared-slice-read-first c = search needs
-
 returns-2 : tie.Need-returns-2
 returns-2 c = sym (recognise-short _ (c .before .before .before .if1 .left) (c .before .match .keys10) (c .if2 .taken))
-
-read2-requires : tie.Need-read2-requires
-read2-requires c κs = search needs
 
 returns-3 : tie.Need-returns-3
 returns-3 c = by-byte _ _ (c .before .before .if1 .left) (c .match .keys1) (λ h. omega arith)
@@ -81,9 +75,9 @@ recognised-spec =
     tie.close
     (tie.spec
     returns
-    shared-slice-read-first
+    (λ c. search needs)
     returns-2
-    read2-requires
+    (λ c κs. search needs)
     returns-3
     returns-4
     returns-5

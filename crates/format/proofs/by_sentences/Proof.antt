@@ -1,6 +1,6 @@
 -- `format::by_sentences`: each test decides one of the sentences.
 -- Assumes nothing.
-use mathlib.Core.Path.{_≡_, refl, sym, _∙_}
+use mathlib.Core.Path.{_≡_, sym, _∙_}
 use mathlib.Core.Bool.{Bool, true, false, not, cond}
 use Prim.Native.Nat.{ℕ}
 use lib.Dec.{eqb}
@@ -30,49 +30,25 @@ goes-on s p f u a b e = rw (ne-eqb f 0 a, ne-eqb f 1 b) (decide (supports p s) e
     decide : (t : Bool) → t ≡ true → cond (not t) (illegal Field) (rest s f u) ≡ rest s f u
     decide t e = rw e
 
-by-usage-requires : tie.Need-by-usage-requires
-by-usage-requires c κs = search needs
-
 returns : tie.Need-returns
 unfolding sentences
 returns c = c .by-usage .ensures ∙ rw (c .before .if1 .taken)
-
-refused-requires : tie.Need-refused-requires
-refused-requires c κs = search needs
 
 returns-2 : tie.Need-returns-2
 unfolding sentences
 returns-2 c = c .refused .ensures ∙ rw (c .before .if2 .taken)
 
-supported-requires : tie.Need-supported-requires
-supported-requires c κs = search needs
-
-refused-requires-2 : tie.Need-refused-requires-2
-refused-requires-2 c κs = search needs
-
 returns-3 : tie.Need-returns-3
 returns-3 c = c .refused2 .ensures ∙ sym (refuses _ _ _ _ (c .before .before .before .before .if1 .left) (c .before .before .before .if2 .left) (sym (c .before .before .supported .ensures) ∙ not-true _ (c .before .if3 .taken)))
-
-by-usage-requires-2 : tie.Need-by-usage-requires-2
-by-usage-requires-2 c κs = search needs
 
 returns-4 : tie.Need-returns-4
 returns-4 c = c .by-usage2 .ensures ∙ sym (goes-on _ _ _ _ (c .before .before .before .before .before .if1 .left) (c .before .before .before .before .if2 .left) (sym (c .before .before .before .supported .ensures) ∙ not-false _ (c .before .before .if3 .left)) ∙ rw (eq-eqb _ 2 (c .before .if4 .taken)))
 
-refused-requires-3 : tie.Need-refused-requires-3
-refused-requires-3 c κs = search needs
-
 returns-5 : tie.Need-returns-5
 returns-5 c = c .refused3 .ensures ∙ sym (goes-on _ _ _ _ (c .before .before .before .before .before .before .if1 .left) (c .before .before .before .before .before .if2 .left) (sym (c .before .before .before .before .supported .ensures) ∙ not-false _ (c .before .before .before .if3 .left)) ∙ rw (ne-eqb _ 2 (c .before .before .if4 .left), eq-eqb _ 0 (c .before .if5 .taken)))
 
-by-usage-requires-3 : tie.Need-by-usage-requires-3
-by-usage-requires-3 c κs = search needs
-
 returns-6 : tie.Need-returns-6
 returns-6 c = c .by-usage3 .ensures ∙ sym (goes-on _ _ _ _ (c .before .before .before .before .before .before .before .if1 .left) (c .before .before .before .before .before .before .if2 .left) (sym (c .before .before .before .before .before .supported .ensures) ∙ not-false _ (c .before .before .before .before .if3 .left)) ∙ rw (ne-eqb _ 2 (c .before .before .before .if4 .left), ne-eqb _ 0 (c .before .before .if5 .left), eq-eqb _ 1 (c .before .if6 .taken)))
-
-by-usage-requires-4 : tie.Need-by-usage-requires-4
-by-usage-requires-4 c κs = search needs
 
 returns-7 : tie.Need-returns-7
 returns-7 c = c .by-usage4 .ensures ∙ sym (goes-on _ _ _ _ (c .before .before .before .before .before .before .before .if1 .left) (c .before .before .before .before .before .before .if2 .left) (sym (c .before .before .before .before .before .supported .ensures) ∙ not-false _ (c .before .before .before .before .if3 .left)) ∙ rw (ne-eqb _ 2 (c .before .before .before .if4 .left), ne-eqb _ 0 (c .before .before .if5 .left), ne-eqb _ 1 (c .before .if6 .left)))
@@ -81,18 +57,17 @@ pub by-sentences-spec : {M : Type 1} → statement M
 by-sentences-spec =
     tie.close
     (tie.spec
-    by-usage-requires
+    (λ c κs. search needs)
     returns
-    refused-requires
+    (λ c κs. search needs)
     returns-2
-    supported-requires
-    refused-requires-2
+    (λ c κs. search needs) (λ c κs. search needs)
     returns-3
-    by-usage-requires-2
+    (λ c κs. search needs)
     returns-4
-    refused-requires-3
+    (λ c κs. search needs)
     returns-5
-    by-usage-requires-3
+    (λ c κs. search needs)
     returns-6
-    by-usage-requires-4
+    (λ c κs. search needs)
     returns-7)

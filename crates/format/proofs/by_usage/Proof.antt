@@ -1,7 +1,7 @@
 -- `format::by_usage`: the test decides.
 -- Assumes nothing.
 use mathlib.Core.Path.{_∙_}
-use borrow.Author.Tests.{lt-leb, le-leb, eq-eqb, ne-eqb}
+use borrow.Author.Tests.{eq-eqb, ne-eqb}
 use borrow.Author.Needs.{needs}
 use Rattle.format.proofs.by_usage.Statement.{statement}
 use Rattle.format.proofs.by_usage.Tie as tie
@@ -9,11 +9,8 @@ use Rattle.format.proofs.by_usage.Tie as tie
 returns : tie.Need-returns
 returns c = rw (eq-eqb _ _ (c .if1 .taken))
 
-refused-requires : tie.Need-refused-requires
-refused-requires c κs = search needs
-
 returns-2 : tie.Need-returns-2
 returns-2 c = c .refused .ensures ∙ rw (ne-eqb _ _ (c .before .if1 .left))
 
 pub by-usage-spec : {M : Type 1} → statement M
-by-usage-spec = tie.close (tie.spec returns refused-requires returns-2)
+by-usage-spec = tie.close (tie.spec returns (λ c κs. search needs) returns-2)

@@ -6,21 +6,17 @@ use borrow.Author.Needs.{needs}
 use Rattle.format.proofs.choose.Statement.{statement}
 use Rattle.format.proofs.choose.Tie as tie
 
-in-range-requires : tie.Need-in-range-requires
-in-range-requires c κs = search needs
-
-by-sentences-requires : tie.Need-by-sentences-requires
-by-sentences-requires c κs = search needs
-
 returns : tie.Need-returns
 returns c = c .by-sentences .ensures ∙ sym (within-ranges _ _ _ _ (sym (c .before .before .in-range .ensures) ∙ c .before .if1 .taken))
-
-refused-requires : tie.Need-refused-requires
-refused-requires c κs = search needs
 
 returns-2 : tie.Need-returns-2
 returns-2 c = c .refused .ensures ∙ sym (outside-ranges _ _ _ _ (sym (c .before .before .in-range .ensures) ∙ c .before .if1 .left))
 
 pub choose-spec : {M : Type 1} → statement M
 choose-spec =
-    tie.close (tie.spec in-range-requires by-sentences-requires returns refused-requires returns-2)
+    tie.close
+    (tie.spec
+    (λ c κs. search needs) (λ c κs. search needs)
+    returns
+    (λ c κs. search needs)
+    returns-2)

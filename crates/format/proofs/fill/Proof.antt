@@ -1,17 +1,16 @@
 -- `format::fill`: each refusal denies a fact, and a segment that is filled is fresh, with fields or without.
 -- Assumes nothing.
-use mathlib.Core.Path.{_≡_, refl, sym, ap, _∙_}
-use mathlib.Core.Bool.{Bool, true, false, not}
+use mathlib.Core.Path.{_≡_, sym, ap, _∙_}
+use mathlib.Core.Bool.{false}
 use mathlib.Core.List.{List}
 use Prim.Native.Nat.{ℕ, _+_, _*_, _≤_}
 use native.Mathlib.Nat.{mul-assoc, mul-le-mul}
 use native.Mathlib.Omega.{arith}
 use borrow.Author.Tests.{eq-eqb, ne-eqb}
-use lib.Dec.{T}
 use lib.ListN.{length, replicate}
 use Rattle.answer.specs.declared.Answer.the-variants as answers
 use Rattle.segment.specs.declared.Description.{Description}
-use Rattle.segment.specs.Segment.{isSegment, Segment, intervalsOf, sizeOf, storedOf, lengthOf}
+use Rattle.segment.specs.Segment.{isSegment, Segment, intervalsOf, sizeOf, lengthOf}
 use Rattle.segment.proofs.Laws.{described, undescribed, is-segment, sizes, stored-intervals}
 use Rattle.format.specs.Fresh.{filled, filledOf, fresh, freshIntervals}
 use borrow.Author.Needs.{needs}
@@ -45,9 +44,6 @@ whole d long size n f k e g l = rw (e, g, l, stored-intervals d f k) (mul-assoc 
 few : (d : Description) (n : ℕ) → Segment d → n ≡ intervalsOf d → d .count * n ≤ 524288
 few d n f e = rw e (mul-le-mul {n₂ = 65536} {m₂ = 8} (f .count) (sizes d f .intervals-most))
 
-fit-requires : tie.Need-fit-requires
-fit-requires c κs = search needs
-
 returns : tie.Need-returns
 returns c = refused _ _ (undescribed _ _ (c .before .fit .ensures) (c .if1 .taken))
 
@@ -56,12 +52,6 @@ length-requires c κs = (described _ _ (c .before .fit .ensures) (c .if1 .left))
 
 returns-2 : tie.Need-returns-2
 returns-2 c = unfit _ _ (described _ _ (c .before .before .before .fit .ensures) (c .before .before .if1 .left)) (λ e. c .if2 .taken (e ∙ sym (c .before .length .ensures)))
-
-fill-with-requires : tie.Need-fill-with-requires
-fill-with-requires c κs = search needs
-
-same-length : tie.Need-same-length
-same-length c = search needs
 
 returns-3 : tie.Need-returns-3
 returns-3 c = good _ _ _ (described _ _ (c .before .before .before .before .before .before .before .before .before .fit .ensures) (c .before .before .before .before .before .before .before .before .if1 .left)) (c .before .before .before .before .before .before .if2 .left ∙ c .before .before .before .before .before .before .before .length .ensures) (plain _ _ _ (c .before .before .before .before .before .before .if2 .left ∙ c .before .before .before .before .before .before .before .length .ensures) (c .before .before .before .before .if3 .taken) (c .before .before .fill-with .ensures))
@@ -78,9 +68,6 @@ mul-count c = omega (arith, few _ _ (described _ _ (c .before .before .before .b
 fill-intervals-requires : tie.Need-fill-intervals-requires
 fill-intervals-requires c κs = whole _ _ _ _ (described _ _ (c .before .before .before .before .before .before .before .before .fit .ensures) (c .before .before .before .before .before .before .before .if1 .left)) (c .before .before .before .if3 .left) (c .before .before .size .ensures) (c .before .intervals .ensures) (c .before .before .before .before .before .if2 .left ∙ c .before .before .before .before .before .before .length .ensures)
 
-same-length-2 : tie.Need-same-length-2
-same-length-2 c = search needs
-
 returns-4 : tie.Need-returns-4
 returns-4 c = good _ _ _ (described _ _ (c .before .before .before .before .before .before .before .before .before .before .before .fit .ensures) (c .before .before .before .before .before .before .before .before .before .before .if1 .left)) (c .before .before .before .before .before .before .before .before .if2 .left ∙ c .before .before .before .before .before .before .before .before .before .length .ensures) (fields _ _ _ _ (c .before .before .before .before .before .before .if3 .left) (c .before .before .before .before .before .size .ensures) (c .before .before .before .before .intervals .ensures) (c .before .before .fill-intervals .ensures))
 
@@ -88,16 +75,15 @@ pub fill-spec : {M : Type 1} → statement M
 fill-spec =
     tie.close
     (tie.spec
-    fit-requires
+    (λ c κs. search needs)
     returns
     length-requires
     returns-2
-    fill-with-requires
-    same-length
+    (λ c κs. search needs) (λ c. search needs)
     returns-3
     size-requires
     intervals-requires
     mul-count
     fill-intervals-requires
-    same-length-2
+    (λ c. search needs)
     returns-4)

@@ -27,24 +27,6 @@ made size d mid end h m e =
     ap₂ (λ (x y : List ℕ). x ++ y) front
     (ap₂ (λ (x y : List ℕ). x ++ y) (e ∙ ap (λ (n : ℕ). replicate n 0xFF) eight) none ∙ append-nil (replicate 8 0xFF))
 
-fill-with-requires : tie.Need-fill-with-requires
-fill-with-requires c κs = search needs
-
-sub-fill-with : tie.Need-sub-fill-with
-sub-fill-with c = search needs
-
-part-fill-with-start : tie.Need-part-fill-with-start
-part-fill-with-start c = search needs
-
-part-fill-with-end : tie.Need-part-fill-with-end
-part-fill-with-end c = search needs
-
-fill-with-requires-2 : tie.Need-fill-with-requires-2
-fill-with-requires-2 c κs = search needs
-
-same-length : tie.Need-same-length
-same-length c = search needs
-
 returns : tie.Need-returns
 returns c =
     let at-entry = c .before .before .before .before .before .before .before .before .before in
@@ -54,10 +36,6 @@ pub fill-interval-spec : {M : Type 1} → statement M
 fill-interval-spec =
     tie.close
     (tie.spec
-    fill-with-requires
-    sub-fill-with
-    part-fill-with-start
-    part-fill-with-end
-    fill-with-requires-2
-    same-length
+    (λ c κs. search needs) (λ c. search needs) (λ c. search needs) (λ c. search needs)
+    (λ c κs. search needs) (λ c. search needs)
     returns)

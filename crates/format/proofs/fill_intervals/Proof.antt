@@ -6,7 +6,7 @@ use Prim.Native.Nat.{ℕ, _+_, _*_, _-_, _<_, _≤_}
 use native.Mathlib.Nat.{zero-add}
 use native.Mathlib.Omega.{arith}
 use borrow.Rule.Slice.PartMut.{putMid}
-use lib.ListN.{length, take, drop, replicate, length-append, length-replicate}
+use lib.ListN.{length, take, length-append, length-replicate}
 use Rattle.words.specs.Parts.{put}
 use Rattle.words.specs.Runs.{runs}
 use Rattle.words.proofs.BigEndian.{part-length}
@@ -58,23 +58,11 @@ add-end c = omega (arith, within (c .before .loop .inv) (c .loop-test .taken), c
 add-end-2 : tie.Need-add-end-2 Inv-loop μ-loop
 add-end-2 c = omega (arith, within (c .before .loop .inv) (c .loop-test .taken), c .before .loop .inv .kept, c .before .before .before .good)
 
-sub-fill-interval : tie.Need-sub-fill-interval Inv-loop μ-loop
-sub-fill-interval c = search needs
-
-part-fill-interval-start : tie.Need-part-fill-interval-start Inv-loop μ-loop
-part-fill-interval-start c = search needs
-
 part-fill-interval-end : tie.Need-part-fill-interval-end Inv-loop μ-loop
 part-fill-interval-end c = within (c .before .loop .inv) (c .loop-test .taken)
 
 fill-interval-requires : tie.Need-fill-interval-requires Inv-loop μ-loop
 fill-interval-requires c κs = sym (part-length _ (_ + 8) _ (within (c .before .before .loop .inv) (c .before .loop-test .taken)))
-
-sub-left : tie.Need-sub-left Inv-loop μ-loop
-sub-left c = search needs
-
-loop-less : tie.Need-loop-less Inv-loop μ-loop
-loop-less c = search needs
 
 loop-again : tie.Need-loop-again Inv-loop μ-loop
 loop-again c = turn (c .before .before .before .before .before .loop .inv) (c .before .before .before .before .loop-test .taken) (c .before .before .fill-interval .ensures) refl
@@ -96,12 +84,10 @@ fill-intervals-spec =
     loop-holds
     add-end
     add-end-2
-    sub-fill-interval
-    part-fill-interval-start
+    (λ c. search needs) (λ c. search needs)
     part-fill-interval-end
     fill-interval-requires
-    sub-left
-    loop-less
+    (λ c. search needs) (λ c. search needs)
     loop-again
     same-length
     returns)

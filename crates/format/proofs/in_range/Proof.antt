@@ -1,7 +1,6 @@
 -- `format::in_range`: each test that fails decides, and the last return has passed them all.
 -- Assumes nothing.
-use borrow.Author.Tests.{lt-leb, le-leb, eq-eqb, ne-eqb}
-use borrow.Author.Needs.{needs}
+use borrow.Author.Tests.{lt-leb, le-leb}
 use Rattle.format.proofs.in_range.Statement.{statement}
 use Rattle.format.proofs.in_range.Tie as tie
 

@@ -1,7 +1,6 @@
 -- `format::supported`: each test decides.
 -- Assumes nothing.
-use borrow.Author.Tests.{lt-leb, le-leb, eq-eqb, ne-eqb}
-use borrow.Author.Needs.{needs}
+use borrow.Author.Tests.{ne-eqb}
 use Rattle.format.proofs.supported.Statement.{statement}
 use Rattle.format.proofs.supported.Tie as tie
 

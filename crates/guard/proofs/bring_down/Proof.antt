@@ -18,15 +18,6 @@ taken : (n : ℕ) → 0x10000 ≤ n → takeOff n ≡ bitXor n 0x18BB7
 unfolding takeOff
 taken n h = rw (le-ltb n 0x10000 h)
 
-mul-n : tie.Need-mul-n
-mul-n c = search needs
-
-add-n : tie.Need-add-n
-add-n c = search needs
-
-cast-result : tie.Need-cast-result
-cast-result c = search needs
-
 cast-result-2 : tie.Need-cast-result-2
 cast-result-2 c = record { fits = rw (taken (c .before .args .r * 2 + c .before .args .t) (c .if1 .left)) at (takeOff-lt _ _ (c .before .fits .r .fits) (c .before .pre)) }
 
@@ -37,4 +28,10 @@ returns-2 : tie.Need-returns-2
 returns-2 c = sym (taken _ (c .if1 .left))
 
 pub bring-down-spec : {M : Type 1} → statement M
-bring-down-spec = tie.close (tie.spec mul-n add-n cast-result cast-result-2 returns returns-2)
+bring-down-spec =
+    tie.close
+    (tie.spec
+    (λ c. search needs) (λ c. search needs) (λ c. search needs)
+    cast-result-2
+    returns
+    returns-2)

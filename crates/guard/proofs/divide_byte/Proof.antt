@@ -24,24 +24,6 @@ Inv-loop r b n₀ k₀ n k = (k ≤ 8) × (divide n (terms k b) ≡ divide r (te
 abbrev μ-loop : tie.MeasureT-loop
 μ-loop r b n₀ k₀ n k = k
 
-loop-holds : tie.Need-loop-holds Inv-loop μ-loop
-loop-holds c = search needs
-
-sub-k : tie.Need-sub-k Inv-loop μ-loop
-sub-k c = search needs
-
-shr-bring-down : tie.Need-shr-bring-down Inv-loop μ-loop
-shr-bring-down c = search needs
-
-cast-bring-down : tie.Need-cast-bring-down Inv-loop μ-loop
-cast-bring-down c = search needs
-
-bring-down-requires : tie.Need-bring-down-requires Inv-loop μ-loop
-bring-down-requires c κs = search needs
-
-loop-less : tie.Need-loop-less Inv-loop μ-loop
-loop-less c = search needs
-
 loop-again : tie.Need-loop-again Inv-loop μ-loop
 loop-again c =
     let l = c .before .before .loop in
@@ -56,11 +38,7 @@ divide-byte-spec =
     (tie.spec
     Inv-loop
     μ-loop
-    loop-holds
-    sub-k
-    shr-bring-down
-    cast-bring-down
-    bring-down-requires
-    loop-less
+    (λ c. search needs) (λ c. search needs) (λ c. search needs) (λ c. search needs)
+    (λ c κs. search needs) (λ c. search needs)
     loop-again
     returns)

@@ -1,6 +1,6 @@
 -- `guard::fill_guards`: the guards that stand, and those of the intervals that are left, make up all of them.
 -- Assumes nothing.
-use mathlib.Core.Path.{_≡_, refl, sym, ap, _∙_}
+use mathlib.Core.Path.{_≡_, refl, ap, _∙_}
 use mathlib.Core.List.{List, _++_}
 use Prim.Native.Nat.{ℕ, _+_, _*_, _≤_, _<_, _-_}
 use native.Mathlib.Nat.{zero-add}
@@ -17,10 +17,6 @@ use Rattle.guard.specs.Guards.{guardOfFirst, guardsOf}
 use borrow.Author.Needs.{needs}
 use Rattle.guard.proofs.fill_guards.Statement.{statement}
 use Rattle.guard.proofs.fill_guards.Tie as tie
-use Rattle.guard.proofs.fill_guards.Reads as reads
-use Rattle.guard.proofs.fill_guards.Lts as lts
-use Rattle.guard.proofs.guard_through.Reads as guard-through-reads
-use Rattle.words.proofs.write2.Reads as write2-reads
 
 record Going (s : List ℕ) (size count : ℕ) (out₀ out : List ℕ) (left i at : ℕ) : Type 0 where
   kept : length out ≡ length out₀

@@ -35,30 +35,12 @@ loop-holds : tie.Need-loop-holds Inv-loop μ-loop
 unfolding guard
 loop-holds c = (omega arith, refl)
 
-shared-slice-read-divide-byte : tie.Need-shared-slice-read-divide-byte Inv-loop μ-loop
-shared-slice-read-divide-byte c = search needs
-
-divide-byte-requires : tie.Need-divide-byte-requires Inv-loop μ-loop
-divide-byte-requires c κs = search needs
-
-add-i : tie.Need-add-i Inv-loop μ-loop
-add-i c = search needs
-
-loop-less : tie.Need-loop-less Inv-loop μ-loop
-loop-less c = search needs
-
 loop-again : tie.Need-loop-again Inv-loop μ-loop
 loop-again c =
     let l = c .before .before .before .loop in
     let s = c .before .before .before .before .before .args .«data» .now in
     let here : l .i < length s = omega arith in
     (omega arith, rw (c .divide-byte .ensures) (next s (l .r) (l .i) _ here (l .inv .1)))
-
-divide-byte-requires-2 : tie.Need-divide-byte-requires-2 Inv-loop μ-loop
-divide-byte-requires-2 c κs = search needs
-
-divide-byte-requires-3 : tie.Need-divide-byte-requires-3 Inv-loop μ-loop
-divide-byte-requires-3 c κs = search needs
 
 returns : tie.Need-returns Inv-loop μ-loop
 returns c =
@@ -73,11 +55,7 @@ guard-by-division-spec =
     Inv-loop
     μ-loop
     loop-holds
-    shared-slice-read-divide-byte
-    divide-byte-requires
-    add-i
-    loop-less
+    (λ c. search needs) (λ c κs. search needs) (λ c. search needs) (λ c. search needs)
     loop-again
-    divide-byte-requires-2
-    divide-byte-requires-3
+    (λ c κs. search needs) (λ c κs. search needs)
     returns)

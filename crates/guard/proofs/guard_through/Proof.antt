@@ -23,18 +23,6 @@ abbrev μ-loop : tie.MeasureT-loop
 loop-holds : tie.Need-loop-holds Inv-loop μ-loop
 loop-holds c = (zero-le, lit< tt, sym (guard-from-zero _))
 
-shared-slice-read-table-step : tie.Need-shared-slice-read-table-step Inv-loop μ-loop
-shared-slice-read-table-step c = search needs
-
-table-step-requires : tie.Need-table-step-requires Inv-loop μ-loop
-table-step-requires c κs = search needs
-
-add-i : tie.Need-add-i Inv-loop μ-loop
-add-i c = search needs
-
-loop-less : tie.Need-loop-less Inv-loop μ-loop
-loop-less c = search needs
-
 loop-again : tie.Need-loop-again Inv-loop μ-loop
 loop-again c =
     let l = c .before .before .before .loop in
@@ -55,9 +43,6 @@ guard-through-spec =
     Inv-loop
     μ-loop
     loop-holds
-    shared-slice-read-table-step
-    table-step-requires
-    add-i
-    loop-less
+    (λ c. search needs) (λ c κs. search needs) (λ c. search needs) (λ c. search needs)
     loop-again
     returns)

@@ -50,14 +50,8 @@ all n size e = sym (add-zero (n / size * size)) ∙ ap (λ (r : ℕ). n / size *
 returns : tie.Need-returns
 returns c = refused _ _ _ (λ f. omega (arith, f .some))
 
-rem-if2 : tie.Need-rem-if2
-rem-if2 c = search needs
-
 returns-2 : tie.Need-returns-2
 returns-2 c = refused _ _ _ (λ f. c .if2 .taken (f .whole))
-
-div-count : tie.Need-div-count
-div-count c = search needs
 
 mul-if3 : tie.Need-mul-if3
 mul-if3 c = omega (arith, div-le-self (length (c .before .before .before .before .args .«data» .now)) (c .before .before .before .before .args .size), c .before .before .before .before .good)
@@ -65,14 +59,8 @@ mul-if3 c = omega (arith, div-le-self (length (c .before .before .before .before
 returns-3 : tie.Need-returns-3
 returns-3 c = refused _ _ _ (λ f. c .if3 .taken (f .room))
 
-table-requires : tie.Need-table-requires
-table-requires c κs = search needs
-
 fill-guards-requires : tie.Need-fill-guards-requires
 fill-guards-requires c κs = (c .before .before .table .ensures, (all _ _ (c .before .before .before .before .if2 .left), sym (c .before .before .before .if3 .left)))
-
-same-length : tie.Need-same-length
-same-length c = search needs
 
 returns-4 : tie.Need-returns-4
 returns-4 c =
@@ -86,12 +74,12 @@ guards-spec =
     tie.close
     (tie.spec
     returns
-    rem-if2
+    (λ c. search needs)
     returns-2
-    div-count
+    (λ c. search needs)
     mul-if3
     returns-3
-    table-requires
+    (λ c κs. search needs)
     fill-guards-requires
-    same-length
+    (λ c. search needs)
     returns-4)

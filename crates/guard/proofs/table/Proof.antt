@@ -3,7 +3,6 @@
 use lib.Dec.{lit≤}
 use Rattle.guard.specs.Guard.{guard, divide, takeOff, terms, termsOf}
 use Rattle.guard.proofs.ByTable.{right}
-use borrow.Author.Needs.{needs}
 use Rattle.guard.proofs.table.Statement.{statement}
 use Rattle.guard.proofs.table.Tie as tie
 

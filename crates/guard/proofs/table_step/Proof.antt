@@ -12,12 +12,6 @@ use Rattle.guard.proofs.table_step.Tie as tie
 byte : (r b : ℕ) → r < 65536 → b < 256 → bitXor (r / 256) b < 256
 byte r b h hb = xor-lt 8 (r / 256) b (omega arith) hb
 
-cast-v : tie.Need-cast-v
-cast-v c = search needs
-
-mul-result : tie.Need-mul-result
-mul-result c = search needs
-
 cast-result : tie.Need-cast-result
 cast-result c = omega (arith, byte _ _ (c .fits .r .fits) (c .fits .b .fits))
 
@@ -33,4 +27,10 @@ returns c = refl
 
 pub table-step-spec : {M : Type 1} → statement M
 table-step-spec =
-    tie.close (tie.spec cast-v mul-result cast-result mul-result-2 element-copy-out-result returns)
+    tie.close
+    (tie.spec
+    (λ c. search needs) (λ c. search needs)
+    cast-result
+    mul-result-2
+    element-copy-out-result
+    returns)

@@ -48,26 +48,11 @@ add-m c = omega (arith, within (c .before .loop .inv) (c .loop-test .taken), c .
 add-end : tie.Need-add-end Inv-loop μ-loop
 add-end c = omega (arith, within (c .before .loop .inv) (c .loop-test .taken), c .before .before .before .good)
 
-sub-escaped : tie.Need-sub-escaped Inv-loop μ-loop
-sub-escaped c = search needs
-
-part-escaped-start : tie.Need-part-escaped-start Inv-loop μ-loop
-part-escaped-start c = search needs
-
 part-escaped-end : tie.Need-part-escaped-end Inv-loop μ-loop
 part-escaped-end c = within (c .before .loop .inv) (c .loop-test .taken)
 
-escaped-requires : tie.Need-escaped-requires Inv-loop μ-loop
-escaped-requires c κs = search needs
-
 returns : tie.Need-returns Inv-loop μ-loop
 returns c = search stop
-
-sub-left : tie.Need-sub-left Inv-loop μ-loop
-sub-left c = search needs
-
-loop-less : tie.Need-loop-less Inv-loop μ-loop
-loop-less c = search needs
 
 loop-again : tie.Need-loop-again Inv-loop μ-loop
 loop-again c = search turn
@@ -84,12 +69,10 @@ any-escaped-spec =
     loop-holds
     add-m
     add-end
-    sub-escaped
-    part-escaped-start
+    (λ c. search needs) (λ c. search needs)
     part-escaped-end
-    escaped-requires
+    (λ c κs. search needs)
     returns
-    sub-left
-    loop-less
+    (λ c. search needs) (λ c. search needs)
     loop-again
     returns-2)

@@ -9,9 +9,6 @@ use borrow.Author.Needs.{needs}
 use Rattle.judge.proofs.application_wrong.Statement.{statement}
 use Rattle.judge.proofs.application_wrong.Tie as tie
 
-read2-requires : tie.Need-read2-requires
-read2-requires c κs = search needs
-
 returns : tie.Need-returns
 unfolding applicationWrong storedApplication
 returns c = search (checked, ap (λ (x : ℕ). bitAnd x (c .before .before .before .before .before .args .r .mask)) (c .before .before .read2 .ensures))
@@ -21,4 +18,4 @@ unfolding applicationWrong storedApplication
 returns-2 c = search unchecked
 
 pub application-wrong-spec : {M : Type 1} → statement M
-application-wrong-spec = tie.close (tie.spec read2-requires returns returns-2)
+application-wrong-spec = tie.close (tie.spec (λ c κs. search needs) returns returns-2)

@@ -32,26 +32,8 @@ module _ (e : Escape) (f : List ℕ) where
     unfolding escapes storedApplication storedReference
     both m b s w = rw (b, ← a, eq-eqb n 0xFFFF s, w) refl
 
-enum-told : tie.Need-enum-told
-enum-told c = search needs
-
-enum-told-2 : tie.Need-enum-told-2
-enum-told-2 c = search needs
-
-read2-requires : tie.Need-read2-requires
-read2-requires c κs = search needs
-
-enum-told-3 : tie.Need-enum-told-3
-enum-told-3 c = search needs
-
-read2-requires-2 : tie.Need-read2-requires-2
-read2-requires-2 c κs = search needs
-
 returns : tie.Need-returns
 returns c = search half
-
-read4-requires : tie.Need-read4-requires
-read4-requires c κs = search needs
 
 returns-2 : tie.Need-returns-2
 returns-2 c = search none
@@ -66,13 +48,10 @@ pub escaped-spec : {M : Type 1} → statement M
 escaped-spec =
     tie.close
     (tie.spec
-    enum-told
-    enum-told-2
-    read2-requires
-    enum-told-3
-    read2-requires-2
+    (λ c. search needs) (λ c. search needs) (λ c κs. search needs) (λ c. search needs)
+    (λ c κs. search needs)
     returns
-    read4-requires
+    (λ c κs. search needs)
     returns-2
     returns-3
     returns-4)

@@ -6,12 +6,6 @@ use borrow.Author.Needs.{needs}
 use Rattle.judge.proofs.guard_wrong.Statement.{statement}
 use Rattle.judge.proofs.guard_wrong.Tie as tie
 
-read2-requires : tie.Need-read2-requires
-read2-requires c κs = search needs
-
-guard-through-requires : tie.Need-guard-through-requires
-guard-through-requires c κs = search needs
-
 returns : tie.Need-returns
 unfolding guardWrong storedGuard
 returns c = search checked
@@ -21,4 +15,5 @@ unfolding guardWrong storedGuard
 returns-2 c = search unchecked
 
 pub guard-wrong-spec : {M : Type 1} → statement M
-guard-wrong-spec = tie.close (tie.spec read2-requires guard-through-requires returns returns-2)
+guard-wrong-spec =
+    tie.close (tie.spec (λ c κs. search needs) (λ c κs. search needs) returns returns-2)

@@ -13,12 +13,9 @@ any-escaped-requires c κs = sym (one-mul _) ∙ c .before .pre .1 .whole
 returns : tie.Need-returns
 returns c = sym (block-escaped _ _ _ (sym (c .before .any-escaped .ensures) ∙ c .if1 .taken))
 
-judge-intervals-requires : tie.Need-judge-intervals-requires
-judge-intervals-requires c κs = search needs
-
 returns-2 : tie.Need-returns-2
 returns-2 c = c .judge-intervals .ensures ∙ sym (block-judged _ _ _ (sym (c .before .before .any-escaped .ensures) ∙ c .before .if1 .left))
 
 pub judge-block-spec : {M : Type 1} → statement M
 judge-block-spec =
-    tie.close (tie.spec any-escaped-requires returns judge-intervals-requires returns-2)
+    tie.close (tie.spec any-escaped-requires returns (λ c κs. search needs) returns-2)

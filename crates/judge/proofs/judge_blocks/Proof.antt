@@ -4,11 +4,10 @@ use mathlib.Core.Path.{_≡_, refl, sym, ap, _∙_}
 use mathlib.Core.Bool.{Bool, true, false, not}
 use mathlib.Core.List.{List}
 use Prim.Native.Nat.{ℕ, _+_, _*_, _-_, _^_, _<_, _≤_, zero-le}
-use native.Mathlib.Nat.{one-mul, mul-le-mul}
 use native.Mathlib.Omega.{arith}
-use lib.ListN.{length, take, drop, length-drop}
-use lib.Seq.{drop-drop}
+use lib.ListN.{length, take, drop}
 use borrow.Author.Tests.{not-true, not-false}
+use Rattle.words.proofs.Parts.{part-at}
 use Rattle.answer.specs.Answer.{isGood}
 use Rattle.answer.specs.declared.Answer.{Answer}
 use Rattle.judge.specs.declared.Rules.{Rules}
@@ -16,13 +15,10 @@ use Rattle.judge.specs.declared.Place.{Place}
 use Rattle.judge.specs.FirstOf.{firstOf}
 use Rattle.judge.specs.Judge.{judgeBlock, judgeBlocks, nextBlock, Run}
 use Rattle.judge.proofs.FirstLaws.{first-next, first-stop, first-end}
-use Rattle.judge.proofs.BlockLaws.{part-at, own-block, run-within, run-one, run-next}
+use Rattle.judge.proofs.BlockLaws.{own-block, first-within, first-run, first-room, rest-run, block-fits}
 use borrow.Author.Needs.{needs}
 use Rattle.judge.proofs.judge_blocks.Statement.{statement}
 use Rattle.judge.proofs.judge_blocks.Tie as tie
-
-block-fits : (n size : ℕ) → n ≤ 8 → size ≤ 4096 → n * (size + 8) ≤ 8 * (4096 + 8)
-block-fits n size h l = mul-le-mul {m₂ = 4096 + 8} h (omega arith)
 
 record Going (r : Rules) (count : ℕ) (p : Place) (s : List ℕ) (left : ℕ) (here : Place) (i : ℕ) : Type 0 where
   inside : i ≤ length s
@@ -35,15 +31,13 @@ begins run = record { inside = zero-le; run = run; same = refl }
 
 module _ {r : Rules} {count : ℕ} {p : Place} {s : List ℕ} {left : ℕ} {here : Place} {i : ℕ} (g : Going r count p s left here i) (h : 0 < left) where
   within : i + r .intervals * (r .size + 8) ≤ length s
-  within = omega (arith, g .inside, length-drop i s, run-within r left here (drop i s) (g .run) h)
+  within = first-within s i (g .run) h (g .inside)
 
   first : Run r 1 here (take (i + r .intervals * (r .size + 8) - i) (drop i s))
-  first = rw part-at (run-one r left here (drop i s) (g .run) h)
+  first = first-run s i (g .run) h
 
   room : (r .intervals ≤ 8) × (here .interval + r .intervals ≤ 2 ^ 32) × (here .address < 2 ^ 63)
-  room =
-      let one = run-one r left here (drop i s) (g .run) h in
-      (one .few, omega (arith, one .intervals, one-mul (r .intervals)), omega (arith, one .addresses))
+  room = first-room s i (g .run) h
 
   module _ {a : Answer} {b : Bool} (m : a ≡ judgeBlock r here (take (i + r .intervals * (r .size + 8) - i) (drop i s))) (t : b ≡ isGood a) where
     judged : a ≡ judgeBlock r here (drop i s)
@@ -58,7 +52,7 @@ module _ {r : Rules} {count : ℕ} {p : Place} {s : List ℕ} {left : ℕ} {here
         rw e
         (record {
           inside = within;
-          run = rw (← drop-drop (r .intervals * (r .size + 8)) i s) (run-next r left here (drop i s) (g .run) h);
+          run = rest-run s i (g .run) h;
           same = first-next (judgeBlock r) (nextBlock (r .intervals)) _ left i here s a _ h judged (sym t ∙ not-false b o) (g .same);
         })
 
@@ -68,11 +62,8 @@ Inv-loop t r count s n block left₀ here₀ i₀ left here i = Going r count he
 abbrev μ-loop : tie.MeasureT-loop
 μ-loop t r count s n block left₀ here₀ i₀ left here i = left
 
-add-block : tie.Need-add-block Inv-loop μ-loop
-add-block c = search needs
-
 mul-block : tie.Need-mul-block Inv-loop μ-loop
-mul-block c = let run = c .before .before .pre .1 in omega (arith, block-fits _ _ (run .few) (run .size))
+mul-block c = omega (arith, block-fits (c .before .before .pre .1))
 
 loop-holds : tie.Need-loop-holds Inv-loop μ-loop
 loop-holds c = search begins
@@ -80,32 +71,17 @@ loop-holds c = search begins
 add-end : tie.Need-add-end Inv-loop μ-loop
 add-end c = omega (arith, within (c .before .loop .inv) (c .loop-test .taken), c .before .before .before .before .good)
 
-sub-judge-block : tie.Need-sub-judge-block Inv-loop μ-loop
-sub-judge-block c = search needs
-
-part-judge-block-start : tie.Need-part-judge-block-start Inv-loop μ-loop
-part-judge-block-start c = search needs
-
 part-judge-block-end : tie.Need-part-judge-block-end Inv-loop μ-loop
 part-judge-block-end c = within (c .before .loop .inv) (c .loop-test .taken)
 
 judge-block-requires : tie.Need-judge-block-requires Inv-loop μ-loop
 judge-block-requires c κs = search (needs, first)
 
-good-requires : tie.Need-good-requires Inv-loop μ-loop
-good-requires c κs = search needs
-
 returns : tie.Need-returns Inv-loop μ-loop
 returns c = search stop
 
 next-block-requires : tie.Need-next-block-requires Inv-loop μ-loop
 next-block-requires c κs = let test = c .before .before .before .before in room (test .before .loop .inv) (test .loop-test .taken)
-
-sub-left : tie.Need-sub-left Inv-loop μ-loop
-sub-left c = search needs
-
-loop-less : tie.Need-loop-less Inv-loop μ-loop
-loop-less c = search needs
 
 loop-again : tie.Need-loop-again Inv-loop μ-loop
 loop-again c = search turn
@@ -119,18 +95,16 @@ judge-blocks-spec =
     (tie.spec
     Inv-loop
     μ-loop
-    add-block
+    (λ c. search needs)
     mul-block
     loop-holds
     add-end
-    sub-judge-block
-    part-judge-block-start
+    (λ c. search needs) (λ c. search needs)
     part-judge-block-end
     judge-block-requires
-    good-requires
+    (λ c κs. search needs)
     returns
     next-block-requires
-    sub-left
-    loop-less
+    (λ c. search needs) (λ c. search needs)
     loop-again
     returns-2)

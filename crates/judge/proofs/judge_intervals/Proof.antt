@@ -73,41 +73,14 @@ add-m c = omega (arith, within (c .before .loop .inv) (c .loop-test .taken), c .
 add-end : tie.Need-add-end Inv-loop μ-loop
 add-end c = omega (arith, within (c .before .loop .inv) (c .loop-test .taken), c .before .before .before .good)
 
-sub-judge-pieces : tie.Need-sub-judge-pieces Inv-loop μ-loop
-sub-judge-pieces c = search needs
-
-part-judge-pieces-start : tie.Need-part-judge-pieces-start Inv-loop μ-loop
-part-judge-pieces-start c = search needs
-
 part-judge-pieces-end : tie.Need-part-judge-pieces-end Inv-loop μ-loop
 part-judge-pieces-end c = omega (arith, within (c .before .loop .inv) (c .loop-test .taken))
-
-sub-judge-pieces-2 : tie.Need-sub-judge-pieces-2 Inv-loop μ-loop
-sub-judge-pieces-2 c = search needs
-
-part-judge-pieces-start-2 : tie.Need-part-judge-pieces-start-2 Inv-loop μ-loop
-part-judge-pieces-start-2 c = search needs
 
 part-judge-pieces-end-2 : tie.Need-part-judge-pieces-end-2 Inv-loop μ-loop
 part-judge-pieces-end-2 c = within (c .before .before .loop .inv) (c .before .loop-test .taken)
 
-judge-pieces-requires : tie.Need-judge-pieces-requires Inv-loop μ-loop
-judge-pieces-requires c κs = search needs
-
-good-requires : tie.Need-good-requires Inv-loop μ-loop
-good-requires c κs = search needs
-
 returns : tie.Need-returns Inv-loop μ-loop
 returns c = search stop
-
-next-interval-requires : tie.Need-next-interval-requires Inv-loop μ-loop
-next-interval-requires c κs = search needs
-
-sub-left : tie.Need-sub-left Inv-loop μ-loop
-sub-left c = search needs
-
-loop-less : tie.Need-loop-less Inv-loop μ-loop
-loop-less c = search needs
 
 loop-again : tie.Need-loop-again Inv-loop μ-loop
 loop-again c = search turn
@@ -124,17 +97,12 @@ judge-intervals-spec =
     loop-holds
     add-m
     add-end
-    sub-judge-pieces
-    part-judge-pieces-start
+    (λ c. search needs) (λ c. search needs)
     part-judge-pieces-end
-    sub-judge-pieces-2
-    part-judge-pieces-start-2
+    (λ c. search needs) (λ c. search needs)
     part-judge-pieces-end-2
-    judge-pieces-requires
-    good-requires
+    (λ c κs. search needs) (λ c κs. search needs)
     returns
-    next-interval-requires
-    sub-left
-    loop-less
+    (λ c κs. search needs) (λ c. search needs) (λ c. search needs)
     loop-again
     returns-2)

@@ -6,14 +6,8 @@ use borrow.Author.Needs.{needs}
 use Rattle.judge.proofs.judge_pieces.Statement.{statement}
 use Rattle.judge.proofs.judge_pieces.Tie as tie
 
-guard-wrong-requires : tie.Need-guard-wrong-requires
-guard-wrong-requires c κs = search needs
-
 returns : tie.Need-returns
 returns c = sym (pieces-verdict _ _ _ _ .guard .1 (sym (c .before .guard-wrong .ensures) ∙ c .if1 .taken))
-
-application-wrong-requires : tie.Need-application-wrong-requires
-application-wrong-requires c κs = search needs
 
 returns-2 : tie.Need-returns-2
 returns-2 c =
@@ -22,9 +16,6 @@ returns-2 c =
       sym (c .before .before .before .guard-wrong .ensures) ∙ c .before .before .if1 .left,
       sym (c .before .application-wrong .ensures) ∙ c .if2 .taken,
     ))
-
-reference-wrong-requires : tie.Need-reference-wrong-requires
-reference-wrong-requires c κs = search needs
 
 returns-3 : tie.Need-returns-3
 returns-3 c =
@@ -48,10 +39,10 @@ pub judge-pieces-spec : {M : Type 1} → statement M
 judge-pieces-spec =
     tie.close
     (tie.spec
-    guard-wrong-requires
+    (λ c κs. search needs)
     returns
-    application-wrong-requires
+    (λ c κs. search needs)
     returns-2
-    reference-wrong-requires
+    (λ c κs. search needs)
     returns-3
     returns-4)

@@ -6,9 +6,6 @@ use borrow.Author.Needs.{needs}
 use Rattle.judge.proofs.reference_wrong.Statement.{statement}
 use Rattle.judge.proofs.reference_wrong.Tie as tie
 
-read4-requires : tie.Need-read4-requires
-read4-requires c κs = search needs
-
 returns : tie.Need-returns
 unfolding referenceWrong storedReference
 returns c = search checked
@@ -18,4 +15,4 @@ unfolding referenceWrong storedReference
 returns-2 c = search unchecked
 
 pub reference-wrong-spec : {M : Type 1} → statement M
-reference-wrong-spec = tie.close (tie.spec read4-requires returns returns-2)
+reference-wrong-spec = tie.close (tie.spec (λ c κs. search needs) returns returns-2)

@@ -6,14 +6,9 @@ use Rattle.lamptassel.proofs.lamptassel_format_choice.Statement.{statem
 use Rattle.lamptassel.proofs.lamptassel_format_choice.Tie as tie
 use Rattle.lamptassel.proofs.Laws.{chosen-told}
 
-choose-requires : tie.Need-choose-requires
-choose-requires c κs = search needs
-
-number-requires : tie.Need-number-requires
-number-requires c κs = search needs
-
 returns : tie.Need-returns
 returns c = chosen-told _ _ _ _ (c .before .choose .ensures) (c .number .ensures) refl
 
 pub lamptassel-format-choice-spec : {M : Type 1} → statement M
-lamptassel-format-choice-spec = tie.close (tie.spec choose-requires number-requires returns)
+lamptassel-format-choice-spec =
+    tie.close (tie.spec (λ c κs. search needs) (λ c κs. search needs) returns)

@@ -14,21 +14,17 @@ answered : (s : List ℕ) (size : ℕ) (out left : List ℕ) (b good : Bool) →
 answered s size out left b good t e =
     record { answer = ap (λ (x : Bool). cond x 0 4) (sym t ∙ ap (λ (f : Filled). f .good) e); lent = ap (λ (f : Filled). f .out) e }
 
-guards-requires : tie.Need-guards-requires
-guards-requires c κs = search needs
-
-same-length : tie.Need-same-length
-same-length c = search needs
-
 returns : tie.Need-returns
 returns c = answered _ _ _ _ _ true (c .if1 .taken) (c .before .before .before .guards .ensures)
-
-same-length-2 : tie.Need-same-length-2
-same-length-2 c = search needs
 
 returns-2 : tie.Need-returns-2
 returns-2 c = answered _ _ _ _ _ false (c .if1 .left) (c .before .before .before .guards .ensures)
 
 pub lamptassel-guards-spec : {M : Type 1} → statement M
 lamptassel-guards-spec =
-    tie.close (tie.spec guards-requires same-length returns same-length-2 returns-2)
+    tie.close
+    (tie.spec
+    (λ c κs. search needs) (λ c. search needs)
+    returns
+    (λ c. search needs)
+    returns-2)

@@ -5,20 +5,12 @@ use Rattle.lamptassel.proofs.lamptassel_rebuild.Statement.{statement}
 use Rattle.lamptassel.proofs.lamptassel_rebuild.Tie as tie
 use Rattle.lamptassel.proofs.Laws.{rebuild-told}
 
-described-requires : tie.Need-described-requires
-described-requires c κs = search needs
-
-rebuild-requires : tie.Need-rebuild-requires
-rebuild-requires c κs = search needs
-
-number-requires : tie.Need-number-requires
-number-requires c κs = search needs
-
-same-length : tie.Need-same-length
-same-length c = search needs
-
 returns : tie.Need-returns
 returns c = rebuild-told _ _ _ _ _ _ _ _ _ (c .before .before .before .before .before .described .ensures) (c .before .before .before .rebuild .ensures) (c .number .ensures)
 
 pub lamptassel-rebuild-spec : {M : Type 1} → statement M
-lamptassel-rebuild-spec = tie.close (tie.spec described-requires rebuild-requires number-requires same-length returns)
+lamptassel-rebuild-spec =
+    tie.close
+    (tie.spec
+    (λ c κs. search needs) (λ c κs. search needs) (λ c κs. search needs) (λ c. search needs)
+    returns)

@@ -10,26 +10,14 @@ use Rattle.listing.proofs.frame_bad.Tie as tie
 returns : tie.Need-returns
 returns c = frame-bad _ (λ f. omega (arith, f .start))
 
-read4-requires : tie.Need-read4-requires
-read4-requires c κs = search needs
-
-cast-length : tie.Need-cast-length
-cast-length c = search needs
-
 returns-2 : tie.Need-returns-2
 returns-2 c = frame-bad _ (λ f. omega (arith, f .most, c .before .read4 .ensures))
 
 returns-3 : tie.Need-returns-3
 returns-3 c = frame-bad _ (λ f. omega (arith, f .least, c .before .before .read4 .ensures))
 
-add-if4 : tie.Need-add-if4
-add-if4 c = search needs
-
 returns-4 : tie.Need-returns-4
 returns-4 c = frame-bad _ (λ f. c .if4 .taken (omega (arith, f .whole, c .before .before .before .read4 .ensures)))
-
-shared-slice-read-if5 : tie.Need-shared-slice-read-if5
-shared-slice-read-if5 c = search needs
 
 returns-5 : tie.Need-returns-5
 returns-5 c = frame-bad _ (λ f. c .if5 .taken (f .version))
@@ -42,12 +30,11 @@ frame-bad-spec =
     tie.close
     (tie.spec
     returns
-    read4-requires
-    cast-length
+    (λ c κs. search needs) (λ c. search needs)
     returns-2
     returns-3
-    add-if4
+    (λ c. search needs)
     returns-4
-    shared-slice-read-if5
+    (λ c. search needs)
     returns-5
     returns-6)

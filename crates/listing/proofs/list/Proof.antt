@@ -6,18 +6,6 @@ use borrow.Author.Needs.{needs}
 use Rattle.listing.proofs.list.Statement.{statement}
 use Rattle.listing.proofs.list.Tie as tie
 
-record-answer-requires : tie.Need-record-answer-requires
-record-answer-requires c κs = search needs
-
-good-requires : tie.Need-good-requires
-good-requires c κs = search needs
-
-print-refused-requires : tie.Need-print-refused-requires
-print-refused-requires c κs = search needs
-
-same-length : tie.Need-same-length
-same-length c = search needs
-
 returns : tie.Need-returns
 returns c = list-as _ (refused-is _ (c .before .before .before .before .before .before .record-answer .ensures) (c .before .before .before .before .before .good2 .ensures) (c .before .before .before .before .if1 .taken)) (c .before .before .print-refused .ensures)
 
@@ -30,14 +18,8 @@ sub-print-listed c = let f = list-whole _ (c .before .before .before .record-ans
 part-print-listed-start : tie.Need-part-print-listed-start
 part-print-listed-start c = let f = list-whole _ (c .before .before .before .record-answer .ensures) (c .before .before .good2 .ensures) (c .before .if1 .left) .frame in omega (arith, f .whole, f .least)
 
-part-print-listed-end : tie.Need-part-print-listed-end
-part-print-listed-end c = search needs
-
 print-listed-requires : tie.Need-print-listed-requires
 print-listed-requires c κs = list-fits _ (list-whole _ (c .before .before .before .before .before .record-answer .ensures) (c .before .before .before .before .good2 .ensures) (c .before .before .before .if1 .left)) (c .before .before .described .ensures)
-
-same-length-2 : tie.Need-same-length-2
-same-length-2 c = search needs
 
 returns-2 : tie.Need-returns-2
 returns-2 c = list-as _ (listed-is _ (c .before .before .before .before .before .before .before .before .record-answer .ensures) (c .before .before .before .before .before .before .before .good2 .ensures) (c .before .before .before .before .before .before .if1 .left) (c .before .before .before .before .before .described .ensures)) (c .before .before .print-listed .ensures)
@@ -46,15 +28,12 @@ pub list-spec : {M : Type 1} → statement M
 list-spec =
     tie.close
     (tie.spec
-    record-answer-requires
-    good-requires
-    print-refused-requires
-    same-length
+    (λ c κs. search needs) (λ c κs. search needs) (λ c κs. search needs) (λ c. search needs)
     returns
     described-requires
     sub-print-listed
     part-print-listed-start
-    part-print-listed-end
+    (λ c. search needs)
     print-listed-requires
-    same-length-2
+    (λ c. search needs)
     returns-2)

@@ -90,17 +90,8 @@ any-escaped-requires c κs = sym (one-mul _) ∙ c .before .before .pre .1 .0 .w
 loop-holds : tie.Need-loop-holds Inv-loop μ-loop
 loop-holds c = begins (c .before .before .before .pre .1 .0) (c .before .before .before .pre .1 .1) (c .any-escaped .ensures)
 
-add-end : tie.Need-add-end Inv-loop μ-loop
-add-end c = search needs
-
 add-end-2 : tie.Need-add-end-2 Inv-loop μ-loop
 add-end-2 c = omega (arith, within (c .before .loop .inv) (c .loop-test .taken), c .before .before .before .before .before .good)
-
-sub-print-interval : tie.Need-sub-print-interval Inv-loop μ-loop
-sub-print-interval c = search needs
-
-part-print-interval-start : tie.Need-part-print-interval-start Inv-loop μ-loop
-part-print-interval-start c = search needs
 
 part-print-interval-end : tie.Need-part-print-interval-end Inv-loop μ-loop
 part-print-interval-end c = within (c .before .loop .inv) (c .loop-test .taken)
@@ -113,12 +104,6 @@ next-interval-requires c κs = omega (arith, c .before .before .before .before .
 
 add-number : tie.Need-add-number Inv-loop μ-loop
 add-number c = omega (arith, c .before .before .before .before .before .before .before .loop .inv .numbers, c .before .before .before .before .before .before .loop-test .taken)
-
-sub-left : tie.Need-sub-left Inv-loop μ-loop
-sub-left c = search needs
-
-loop-less : tie.Need-loop-less Inv-loop μ-loop
-loop-less c = search needs
 
 loop-again : tie.Need-loop-again Inv-loop μ-loop
 loop-again c = turn (c .before .before .before .before .before .before .before .loop .inv) (c .before .before .before .before .before .before .loop-test .taken) (c .before .before .before .print-interval .ensures) (c .next-interval .ensures)
@@ -137,16 +122,14 @@ print-block-spec =
     μ-loop
     any-escaped-requires
     loop-holds
-    add-end
+    (λ c. search needs)
     add-end-2
-    sub-print-interval
-    part-print-interval-start
+    (λ c. search needs) (λ c. search needs)
     part-print-interval-end
     print-interval-requires
     next-interval-requires
     add-number
-    sub-left
-    loop-less
+    (λ c. search needs) (λ c. search needs)
     loop-again
     same-length
     returns)

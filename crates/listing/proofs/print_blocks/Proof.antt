@@ -3,15 +3,15 @@
 use mathlib.Core.Path.{_≡_, refl, sym, ap, _∙_}
 use mathlib.Core.List.{List, [], _++_, append-assoc, append-nil}
 use Prim.Native.Nat.{ℕ, _+_, _-_, _*_, _^_, _<_, _≤_, zero-le}
-use native.Mathlib.Nat.{zero-add, one-mul, mul-le-mul}
+use native.Mathlib.Nat.{zero-add}
 use native.Mathlib.Omega.{arith}
-use lib.ListN.{length, take, drop, length-drop}
-use lib.Seq.{drop-drop}
+use lib.ListN.{length, take, drop}
+use Rattle.words.proofs.Parts.{part-at}
 use Rattle.words.proofs.Runs.{peel-rest}
 use Rattle.judge.specs.declared.Rules.{Rules}
 use Rattle.judge.specs.declared.Place.{Place}
 use Rattle.judge.specs.Judge.{nextBlock, Run}
-use Rattle.judge.proofs.BlockLaws.{run-within, run-one, run-next}
+use Rattle.judge.proofs.BlockLaws.{first-within, first-run, first-room, rest-run, block-fits}
 use Rattle.text.proofs.Writing.{written-length}
 use Rattle.listing.specs.declared.Line.{Line}
 use Rattle.listing.specs.declared.Sheet.{Sheet}
@@ -21,9 +21,6 @@ use Rattle.listing.proofs.BlockLaws.{block-turn, own-block-lines, block
 use borrow.Author.Needs.{needs}
 use Rattle.listing.proofs.print_blocks.Statement.{statement}
 use Rattle.listing.proofs.print_blocks.Tie as tie
-
-block-fits : (n size : ℕ) → n ≤ 8 → size ≤ 4096 → n * (size + 8) ≤ 8 * (4096 + 8)
-block-fits n size h l = mul-le-mul {m₂ = 4096 + 8} h (omega arith)
 
 record Going (r : Rules) (count : ℕ) (p : Place) (s : List ℕ) (t : Sheet) (out₀ out : List ℕ) (left : ℕ) (here : Place) (u : Sheet) (i : ℕ) : Type 0 where
   inside : i ≤ length s
@@ -41,18 +38,13 @@ begins {t = t} {out} run room =
 module _ {r : Rules} {count : ℕ} {p : Place} {s : List ℕ} {t : Sheet} {out₀ out : List ℕ} {left : ℕ} {here : Place} {u : Sheet} {i : ℕ}
     (g : Going r count p s t out₀ out left here u i) (h : 0 < left) where
   within : i + r .intervals * (r .size + 8) ≤ length s
-  within = omega (arith, g .inside, length-drop i s, run-within r left here (drop i s) (g .run) h)
-
-  part : take (i + r .intervals * (r .size + 8) - i) (drop i s) ≡ take (r .intervals * (r .size + 8)) (drop i s)
-  part = let same : i + r .intervals * (r .size + 8) - i ≡ r .intervals * (r .size + 8) = omega arith in rw same refl
+  within = first-within s i (g .run) h (g .inside)
 
   first : Run r 1 here (take (i + r .intervals * (r .size + 8) - i) (drop i s))
-  first = rw part (run-one r left here (drop i s) (g .run) h)
+  first = first-run s i (g .run) h
 
   places : (r .intervals ≤ 8) × (here .interval + r .intervals ≤ 2 ^ 32) × (here .address < 2 ^ 63)
-  places =
-      let one = run-one r left here (drop i s) (g .run) h in
-      (one .few, omega (arith, one .intervals, one-mul (r .intervals)), omega (arith, one .addresses))
+  places = first-room s i (g .run) h
 
   -- the lines of the first block, and then those of the others
   apiece : r .intervals + (left - 1) * r .intervals ≡ left * r .intervals
@@ -65,12 +57,12 @@ module _ {r : Rules} {count : ℕ} {p : Place} {s : List ℕ} {t : Sheet} {out�
       → there ≡ nextBlock (r .intervals) here → Going r count p s t out₀ new (left - 1) there v (i + r .intervals * (r .size + 8))
   turn w e =
       let lines = linesIn r here (drop i s) in
-      let made = printed-as (ap (linesIn r here) part ∙ own-block-lines r here (drop i s)) w in
+      let made = printed-as (ap (linesIn r here) (part-at i _ s) ∙ own-block-lines r here (drop i s)) w in
       let space : Room u (length lines + (left - 1) * r .intervals) = rw (block-length r here (drop i s), apiece) (g .space) in
       rw e
       (record {
         inside = within;
-        run = rw (← drop-drop (r .intervals * (r .size + 8)) i s) (run-next r left here (drop i s) (g .run) h);
+        run = rest-run s i (g .run) h;
         space = room-next {a = lines} ((left - 1) * r .intervals) space made;
         done = g .done ++ lines;
         printed = printed-then (g .printed) made;
@@ -88,23 +80,14 @@ Inv-loop t r count s out₀ n block left₀ here₀ now₀ i₀ out left here no
 abbrev μ-loop : tie.MeasureT-loop
 μ-loop t r count s out₀ n block left₀ here₀ now₀ i₀ out left here now i = left
 
-add-block : tie.Need-add-block Inv-loop μ-loop
-add-block c = search needs
-
 mul-block : tie.Need-mul-block Inv-loop μ-loop
-mul-block c = let run = c .before .before .before .pre .1 .0 in omega (arith, block-fits _ _ (run .few) (run .size))
+mul-block c = omega (arith, block-fits (c .before .before .before .pre .1 .0))
 
 loop-holds : tie.Need-loop-holds Inv-loop μ-loop
 loop-holds c = begins (c .before .before .before .pre .1 .0) (c .before .before .before .pre .1 .1)
 
 add-end : tie.Need-add-end Inv-loop μ-loop
 add-end c = omega (arith, within (c .before .loop .inv) (c .loop-test .taken), c .before .before .before .before .before .good)
-
-sub-print-block : tie.Need-sub-print-block Inv-loop μ-loop
-sub-print-block c = search needs
-
-part-print-block-start : tie.Need-part-print-block-start Inv-loop μ-loop
-part-print-block-start c = search needs
 
 part-print-block-end : tie.Need-part-print-block-end Inv-loop μ-loop
 part-print-block-end c = within (c .before .loop .inv) (c .loop-test .taken)
@@ -114,12 +97,6 @@ print-block-requires c κs = (c .before .before .before .before .before .before 
 
 next-block-requires : tie.Need-next-block-requires Inv-loop μ-loop
 next-block-requires c κs = places (c .before .before .before .before .before .before .loop .inv) (c .before .before .before .before .before .loop-test .taken)
-
-sub-left : tie.Need-sub-left Inv-loop μ-loop
-sub-left c = search needs
-
-loop-less : tie.Need-loop-less Inv-loop μ-loop
-loop-less c = search needs
 
 loop-again : tie.Need-loop-again Inv-loop μ-loop
 loop-again c = turn (c .before .before .before .before .before .before .before .loop .inv) (c .before .before .before .before .before .before .loop-test .taken) (c .before .before .before .print-block .ensures) (c .next-block .ensures)
@@ -136,17 +113,15 @@ print-blocks-spec =
     (tie.spec
     Inv-loop
     μ-loop
-    add-block
+    (λ c. search needs)
     mul-block
     loop-holds
     add-end
-    sub-print-block
-    part-print-block-start
+    (λ c. search needs) (λ c. search needs)
     part-print-block-end
     print-block-requires
     next-block-requires
-    sub-left
-    loop-less
+    (λ c. search needs) (λ c. search needs)
     loop-again
     same-length
     returns)

@@ -6,43 +6,29 @@ use borrow.Author.Needs.{needs}
 use Rattle.listing.proofs.print_interval.Statement.{statement}
 use Rattle.listing.proofs.print_interval.Tie as tie
 
-line-of-requires : tie.Need-line-of-requires
-line-of-requires c κs = search needs
-
-print-line-requires : tie.Need-print-line-requires
-print-line-requires c κs = search needs
-
-add-t14 : tie.Need-add-t14
-add-t14 c = search needs
-
-faulty-requires : tie.Need-faulty-requires
-faulty-requires c κs = search needs
-
 add-t16 : tie.Need-add-t16
-add-t16 c = omega (arith, c .before .faulty .ensures, faulty-most (c .before .before .before .before .before .before .before .line-of .result .state), c .before .before .before .before .before .before .before .before .before .before .pre .1 .1)
-
-skips-requires : tie.Need-skips-requires
-skips-requires c κs = search needs
+add-t16 c =
+    let line = c .before .before .before .before .before .before .before in
+    omega (arith, c .before .faulty .ensures, faulty-most (line .line-of .result .state), line .before .before .before .pre .1 .1)
 
 add-t18 : tie.Need-add-t18
-add-t18 c = omega (arith, c .before .skips .ensures, skips-most (c .before .before .before .before .before .before .before .before .before .line-of .result .state), c .before .before .before .before .before .before .before .before .before .before .before .before .pre .1 .1)
-
-same-length : tie.Need-same-length
-same-length c = search needs
+add-t18 c =
+    let line = c .before .before .before .before .before .before .before .before .before in
+    omega (arith, c .before .skips .ensures, skips-most (line .line-of .result .state), line .before .before .before .pre .1 .1)
 
 returns : tie.Need-returns
-returns c = printed-one (c .before .before .before .before .before .before .before .before .before .line-of .result) _ (c .before .before .before .before .before .before .before .before .before .before .before .before .args .sheet) (c .before .before .before .before .before .before .before .before .before .line-of .ensures) (c .before .before .before .before .before .before .before .print-line .ensures) (c .before .before .before .faulty .ensures) (c .before .skips .ensures)
+returns c =
+    let printed = c .before .before .before .before .before .before .before in
+    let line = printed .before .before in
+    printed-one (line .line-of .result) _ (line .before .before .before .args .sheet) (line .line-of .ensures) (printed .print-line .ensures) (c .before .before .before .faulty .ensures) (c .before .skips .ensures)
 
 pub print-interval-spec : {M : Type 1} → statement M
 print-interval-spec =
     tie.close
     (tie.spec
-    line-of-requires
-    print-line-requires
-    add-t14
-    faulty-requires
+    (λ c κs. search needs) (λ c κs. search needs) (λ c. search needs) (λ c κs. search needs)
     add-t16
-    skips-requires
+    (λ c κs. search needs)
     add-t18
-    same-length
+    (λ c. search needs)
     returns)

@@ -7,12 +7,8 @@ use Rattle.text.proofs.Writing.{written-length}
 use Rattle.listing.proofs.SheetLaws.{first-room}
 use Rattle.listing.proofs.ListingLaws.{lines-end, listed-written}
 use Rattle.listing.specs.Lines.{headerText}
-use borrow.Author.Needs.{needs}
 use Rattle.listing.proofs.print_listed.Statement.{statement}
 use Rattle.listing.proofs.print_listed.Tie as tie
-
-slice-aggregate-put-word : tie.Need-slice-aggregate-put-word
-slice-aggregate-put-word c = refl
 
 put-word-requires : tie.Need-put-word-requires
 put-word-requires c κs = lit≤ tt
@@ -23,11 +19,17 @@ print-segment-requires c κs =
     (pre .0, (pre .1 .0, first-room _ _ (omega (arith, c .before .before .before .put-word .ensures .end)) (pre .1 .1)))
 
 print-total-requires : tie.Need-print-total-requires
-print-total-requires c κs = omega (arith, lines-end _ _ (c .before .before .before .before .before .before .before .before .before .before .before .before .pre .0) (c .before .before .before .before .before .before .before .before .before .before .before .before .pre .1 .0) (omega (arith, c .before .before .before .before .before .before .before .put-word .ensures .end)) (c .before .before .before .before .before .before .before .before .before .before .before .before .pre .1 .1) (c .before .before .before .print-segment .ensures))
+print-total-requires c κs =
+    let lines = c .before .before .before in
+    let header = lines .before .before .before .before in
+    let pre = header .before .before .before .before .before .pre in
+    omega (arith, lines-end _ _ (pre .0) (pre .1 .0) (omega (arith, header .put-word .ensures .end)) (pre .1 .1) (lines .print-segment .ensures))
 
 returns : tie.Need-returns
 unfolding headerText
-returns c = listed-written _ _ (c .before .before .before .before .before .before .before .before .before .before .put-word .ensures) (c .before .before .before .before .before .before .print-segment .ensures) (c .before .before .print-total .ensures)
+returns c =
+    let lines = c .before .before .before .before .before .before in
+    listed-written _ _ (lines .before .before .before .before .put-word .ensures) (lines .print-segment .ensures) (c .before .before .print-total .ensures)
 
 same-length : tie.Need-same-length
 same-length c = written-length (returns c)
@@ -36,7 +38,7 @@ pub print-listed-spec : {M : Type 1} → statement M
 print-listed-spec =
     tie.close
     (tie.spec
-    slice-aggregate-put-word
+    (λ c. refl)
     put-word-requires
     print-segment-requires
     print-total-requires

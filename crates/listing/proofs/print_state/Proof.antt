@@ -10,59 +10,14 @@ use Rattle.listing.proofs.print_state.Tie as tie
 enum-told : tie.Need-enum-told
 enum-told c = search needs
 
-slice-aggregate-put-word : tie.Need-slice-aggregate-put-word
-slice-aggregate-put-word c = refl
-
-put-word-requires : tie.Need-put-word-requires
-put-word-requires c κs = search needs
-
-enum-told-2 : tie.Need-enum-told-2
-enum-told-2 c = search needs
-
-slice-aggregate-put-word-2 : tie.Need-slice-aggregate-put-word-2
-slice-aggregate-put-word-2 c = refl
-
-put-word-requires-2 : tie.Need-put-word-requires-2
-put-word-requires-2 c κs = search needs
-
-enum-told-3 : tie.Need-enum-told-3
-enum-told-3 c = search needs
-
-slice-aggregate-put-word-3 : tie.Need-slice-aggregate-put-word-3
-slice-aggregate-put-word-3 c = refl
-
-put-word-requires-3 : tie.Need-put-word-requires-3
-put-word-requires-3 c κs = search needs
-
-enum-told-4 : tie.Need-enum-told-4
-enum-told-4 c = search needs
-
-slice-aggregate-put-word-4 : tie.Need-slice-aggregate-put-word-4
-slice-aggregate-put-word-4 c = refl
-
-put-word-requires-4 : tie.Need-put-word-requires-4
-put-word-requires-4 c κs = search needs
-
-same-length : tie.Need-same-length
-same-length c = search needs
-
 returns : tie.Need-returns
 returns c = written-as (sym (ap stateText (c .before .before .before .before .before .enum-told .given .1))) (c .before .before .put-word .ensures)
-
-same-length-2 : tie.Need-same-length-2
-same-length-2 c = search needs
 
 returns-2 : tie.Need-returns-2
 returns-2 c = written-as (sym (ap stateText (c .before .before .before .before .before .enum-told2 .given .1))) (c .before .before .put-word2 .ensures)
 
-same-length-3 : tie.Need-same-length-3
-same-length-3 c = search needs
-
 returns-3 : tie.Need-returns-3
 returns-3 c = written-as (sym (ap stateText (c .before .before .before .before .before .enum-told3 .given .1))) (c .before .before .put-word3 .ensures)
-
-same-length-4 : tie.Need-same-length-4
-same-length-4 c = search needs
 
 returns-4 : tie.Need-returns-4
 returns-4 c = written-as (sym (ap stateText (c .before .before .before .before .before .enum-told4 .given .1))) (c .before .before .put-word4 .ensures)
@@ -72,22 +27,13 @@ print-state-spec =
     tie.close
     (tie.spec
     enum-told
-    slice-aggregate-put-word
-    put-word-requires
-    enum-told-2
-    slice-aggregate-put-word-2
-    put-word-requires-2
-    enum-told-3
-    slice-aggregate-put-word-3
-    put-word-requires-3
-    enum-told-4
-    slice-aggregate-put-word-4
-    put-word-requires-4
-    same-length
+    (λ c. refl) (λ c κs. search needs) (λ c. search needs) (λ c. refl) (λ c κs. search needs)
+    (λ c. search needs) (λ c. refl) (λ c κs. search needs) (λ c. search needs) (λ c. refl)
+    (λ c κs. search needs) (λ c. search needs)
     returns
-    same-length-2
+    (λ c. search needs)
     returns-2
-    same-length-3
+    (λ c. search needs)
     returns-3
-    same-length-4
+    (λ c. search needs)
     returns-4)

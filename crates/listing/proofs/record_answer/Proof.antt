@@ -10,17 +10,11 @@ use borrow.Author.Needs.{needs}
 use Rattle.listing.proofs.record_answer.Statement.{statement}
 use Rattle.listing.proofs.record_answer.Tie as tie
 
-frame-bad-requires : tie.Need-frame-bad-requires
-frame-bad-requires c κs = search needs
-
 returns : tie.Need-returns
 returns c = record-frame _ (c .before .frame-bad .ensures) (c .if1 .taken)
 
 described-requires : tie.Need-described-requires
 described-requires c κs = record-framed _ (c .before .frame-bad .ensures) (c .if1 .left)
-
-fit-requires : tie.Need-fit-requires
-fit-requires c κs = search needs
 
 returns-2 : tie.Need-returns-2
 returns-2 c = record-description _ (c .before .before .before .before .frame-bad .ensures) (c .before .before .described .ensures) (c .before .before .before .if1 .left) (undescribed _ _ (c .before .fit .ensures) (c .if2 .taken))
@@ -41,10 +35,10 @@ pub record-answer-spec : {M : Type 1} → statement M
 record-answer-spec =
     tie.close
     (tie.spec
-    frame-bad-requires
+    (λ c κs. search needs)
     returns
     described-requires
-    fit-requires
+    (λ c κs. search needs)
     returns-2
     sub-if3
     length-requires

@@ -14,21 +14,6 @@ returns c = state-skipped _ _ _ _ (c .if1 .taken)
 slice-aggregate-judge-pieces : tie.Need-slice-aggregate-judge-pieces
 slice-aggregate-judge-pieces c = sym (length-take-le _ _ (omega (arith, c .before .before .before .pre .1)))
 
-sub-judge-pieces : tie.Need-sub-judge-pieces
-sub-judge-pieces c = search needs
-
-part-judge-pieces-start : tie.Need-part-judge-pieces-start
-part-judge-pieces-start c = search needs
-
-part-judge-pieces-end : tie.Need-part-judge-pieces-end
-part-judge-pieces-end c = search needs
-
-judge-pieces-requires : tie.Need-judge-pieces-requires
-judge-pieces-requires c κs = search needs
-
-worded-requires : tie.Need-worded-requires
-worded-requires c κs = search needs
-
 returns-2 : tie.Need-returns-2
 returns-2 c = state-judged _ _ _ _ _ _ (c .before .before .before .before .before .before .pre .1) (c .before .before .before .before .if1 .left) (c .before .judge-pieces .ensures) (c .worded .ensures)
 
@@ -38,9 +23,6 @@ state-of-spec =
     (tie.spec
     returns
     slice-aggregate-judge-pieces
-    sub-judge-pieces
-    part-judge-pieces-start
-    part-judge-pieces-end
-    judge-pieces-requires
-    worded-requires
+    (λ c. search needs) (λ c. search needs) (λ c. search needs) (λ c κs. search needs)
+    (λ c κs. search needs)
     returns-2)

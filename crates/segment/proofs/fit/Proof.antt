@@ -35,9 +35,6 @@ returns-8 c = sym (not-segment _ (λ s. omega arith))
 returns-9 : tie.Need-returns-9
 returns-9 c = sym (not-segment _ (λ s. omega arith))
 
-sub-if11 : tie.Need-sub-if11
-sub-if11 c = search needs
-
 returns-10 : tie.Need-returns-10
 returns-10 c = sym (not-segment _ (λ s. omega arith))
 
@@ -68,6 +65,6 @@ fit-spec =
     returns-7
     returns-8
     returns-9
-    sub-if11
+    (λ c. search needs)
     returns-10
     returns-11)

@@ -7,9 +7,6 @@ use borrow.Author.Needs.{needs}
 use Rattle.stripe.proofs.correct.Statement.{statement}
 use Rattle.stripe.proofs.correct.Tie as tie
 
-fit-requires : tie.Need-fit-requires
-fit-requires c κs = search needs
-
 returns : tie.Need-returns
 returns c = correct-bad _ _ _ _ _ (c .before .fit .ensures) (c .if1 .taken)
 
@@ -33,9 +30,6 @@ xor-two-requires c κs =
     let tests = c .before in
     (tests .before .before .if3 .left ∙ sym (tests .if5 .left), tests .before .if4 .left ∙ sym (tests .if5 .left))
 
-same-length : tie.Need-same-length
-same-length c = search needs
-
 returns-6 : tie.Need-returns-6
 returns-6 c =
     let tests = c .before .before .before .before in
@@ -46,7 +40,7 @@ pub correct-spec : {M : Type 1} → statement M
 correct-spec =
     tie.close
     (tie.spec
-    fit-requires
+    (λ c κs. search needs)
     returns
     returns-2
     length-requires
@@ -54,5 +48,5 @@ correct-spec =
     returns-4
     returns-5
     xor-two-requires
-    same-length
+    (λ c. search needs)
     returns-6)

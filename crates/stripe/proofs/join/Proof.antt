@@ -50,29 +50,8 @@ abbrev μ-loop : tie.MeasureT-loop
 loop-holds : tie.Need-loop-holds Inv-loop μ-loop
 loop-holds c = record { kept = refl; sized = joined-length _ _ _ _ _ (search needs) (search needs); within = omega arith; made = refl }
 
-stretch-end-requires : tie.Need-stretch-end-requires Inv-loop μ-loop
-stretch-end-requires c κs = search needs
-
-sub-join-stretch : tie.Need-sub-join-stretch Inv-loop μ-loop
-sub-join-stretch c = search needs
-
-part-join-stretch-start : tie.Need-part-join-stretch-start Inv-loop μ-loop
-part-join-stretch-start c = search needs
-
-part-join-stretch-end : tie.Need-part-join-stretch-end Inv-loop μ-loop
-part-join-stretch-end c = search needs
-
-join-stretch-requires : tie.Need-join-stretch-requires Inv-loop μ-loop
-join-stretch-requires c κs = search needs
-
-loop-less : tie.Need-loop-less Inv-loop μ-loop
-loop-less c = search needs
-
 loop-again : tie.Need-loop-again Inv-loop μ-loop
 loop-again c = search turn
-
-same-length : tie.Need-same-length Inv-loop μ-loop
-same-length c = search needs
 
 returns : tie.Need-returns Inv-loop μ-loop
 returns c = search done
@@ -84,12 +63,8 @@ join-spec =
     Inv-loop
     μ-loop
     loop-holds
-    stretch-end-requires
-    sub-join-stretch
-    part-join-stretch-start
-    part-join-stretch-end
-    join-stretch-requires
-    loop-less
+    (λ c κs. search needs) (λ c. search needs) (λ c. search needs) (λ c. search needs)
+    (λ c κs. search needs) (λ c. search needs)
     loop-again
-    same-length
+    (λ c. search needs)
     returns)

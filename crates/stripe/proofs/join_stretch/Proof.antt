@@ -5,18 +5,6 @@ use borrow.Author.Needs.{needs}
 use Rattle.stripe.proofs.join_stretch.Statement.{statement}
 use Rattle.stripe.proofs.join_stretch.Tie as tie
 
-fill-with-requires : tie.Need-fill-with-requires
-fill-with-requires c κs = search needs
-
-xor-stretch-requires : tie.Need-xor-stretch-requires
-xor-stretch-requires c κs = search needs
-
-xor-stretch-requires-2 : tie.Need-xor-stretch-requires-2
-xor-stretch-requires-2 c κs = search needs
-
-same-length : tie.Need-same-length
-same-length c = search needs
-
 returns : tie.Need-returns
 returns c =
     let half = c .before .before .before .before .before in
@@ -26,4 +14,6 @@ returns c =
 pub join-stretch-spec : {M : Type 1} → statement M
 join-stretch-spec =
     tie.close
-    (tie.spec fill-with-requires xor-stretch-requires xor-stretch-requires-2 same-length returns)
+    (tie.spec
+    (λ c κs. search needs) (λ c κs. search needs) (λ c κs. search needs) (λ c. search needs)
+    returns)

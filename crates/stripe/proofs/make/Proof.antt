@@ -9,9 +9,6 @@ use borrow.Author.Needs.{needs}
 use Rattle.stripe.proofs.make.Statement.{statement}
 use Rattle.stripe.proofs.make.Tie as tie
 
-fit-requires : tie.Need-fit-requires
-fit-requires c κs = search needs
-
 returns : tie.Need-returns
 returns c = make-bad _ _ _ _ _ (c .before .fit .ensures) (c .if1 .taken)
 
@@ -36,16 +33,10 @@ returns-5 c = make-unfit _ _ _ _ _ (c .before .before .before .before .before .b
 returns-6 : tie.Need-returns-6
 returns-6 c = make-unfit _ _ _ _ _ (c .before .before .before .before .before .before .before .before .fit .ensures) _ (c .before .before .length .ensures) (c .before .before .before .before .before .before .before .if1 .left) (λ whole room. c .if6 .taken room)
 
-slice-aggregate-join : tie.Need-slice-aggregate-join
-slice-aggregate-join c = refl
-
 join-requires : tie.Need-join-requires
 join-requires c κs =
     let tests = c .before .before in
     (parts-long _ (tests .before .if5 .left) (tests .if6 .left), zero-mul _)
-
-same-length : tie.Need-same-length
-same-length c = search needs
 
 returns-7 : tie.Need-returns-7
 returns-7 c =
@@ -57,7 +48,7 @@ pub make-spec : {M : Type 1} → statement M
 make-spec =
     tie.close
     (tie.spec
-    fit-requires
+    (λ c κs. search needs)
     returns
     returns-2
     returns-3
@@ -66,7 +57,7 @@ make-spec =
     mul-if5
     returns-5
     returns-6
-    slice-aggregate-join
+    (λ c. refl)
     join-requires
-    same-length
+    (λ c. search needs)
     returns-7)

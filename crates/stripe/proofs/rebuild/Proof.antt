@@ -9,9 +9,6 @@ use borrow.Author.Needs.{needs}
 use Rattle.stripe.proofs.rebuild.Statement.{statement}
 use Rattle.stripe.proofs.rebuild.Tie as tie
 
-fit-requires : tie.Need-fit-requires
-fit-requires c κs = search needs
-
 returns : tie.Need-returns
 returns c = rebuild-bad _ _ _ _ _ _ (c .before .fit .ensures) (c .if1 .taken)
 
@@ -30,9 +27,6 @@ returns-5 c = rebuild-refused _ _ _ _ _ _ (c .before .before .before .before .be
 length-requires : tie.Need-length-requires
 length-requires c κs = is-one _ _ (c .before .before .before .before .before .if1 .left) (c .before .before .before .before .before .before .fit .ensures)
 
-add-if6 : tie.Need-add-if6
-add-if6 c = search needs
-
 mul-if6 : tie.Need-mul-if6
 mul-if6 c = omega (arith, all-most _ (c .before .before .before .before .before .before .before .before .before .before .args .k + 1) _ (is-one _ _ (c .before .before .before .before .before .before .if1 .left) (c .before .before .before .before .before .before .before .fit .ensures)) (c .length .ensures) (omega arith))
 
@@ -47,9 +41,6 @@ restore-requires c κs =
     let tests = c .before in
     (tests .before .before .before .if5 .left, sym (parts-long _ (tests .before .if6 .left) (tests .if7 .left)))
 
-same-length : tie.Need-same-length
-same-length c = search needs
-
 returns-8 : tie.Need-returns-8
 returns-8 c =
     let tests = c .before .before .before .before in
@@ -60,17 +51,17 @@ pub rebuild-spec : {M : Type 1} → statement M
 rebuild-spec =
     tie.close
     (tie.spec
-    fit-requires
+    (λ c κs. search needs)
     returns
     returns-2
     returns-3
     returns-4
     returns-5
     length-requires
-    add-if6
+    (λ c. search needs)
     mul-if6
     returns-6
     returns-7
     restore-requires
-    same-length
+    (λ c. search needs)
     returns-8)

@@ -38,19 +38,10 @@ sub-join c = let p = c .before .before .before .before .pre in omega (arith, beh
 part-join-start : tie.Need-part-join-start
 part-join-start c = let p = c .before .before .before .before .pre in omega (arith, behind _ _ _ _ (p .0) (p .1))
 
-part-join-end : tie.Need-part-join-end
-part-join-end c = search needs
-
-sub-join-2 : tie.Need-sub-join-2
-sub-join-2 c = search needs
-
 join-requires : tie.Need-join-requires
 join-requires c κs =
     let p = c .before .before .before .before .before .pre in
     (sym (length-take-le _ _ (omega (arith, behind _ _ _ _ (p .0) (p .1)))), simp (length-take, length-drop) (omega (arith, behind _ _ _ _ (p .0) (p .1))))
-
-same-length : tie.Need-same-length
-same-length c = search needs
 
 returns : tie.Need-returns
 returns c = restored _ _ _ _ _ (c .before .before .join .ensures)
@@ -64,8 +55,7 @@ restore-spec =
     slice-aggregate-join
     sub-join
     part-join-start
-    part-join-end
-    sub-join-2
+    (λ c. search needs) (λ c. search needs)
     join-requires
-    same-length
+    (λ c. search needs)
     returns)

@@ -99,26 +99,11 @@ add-next c = omega (arith, within-two (c .before .loop .inv) (c .loop-test .take
 add-next-end : tie.Need-add-next-end Inv-loop μ-loop
 add-next-end c = omega (arith, within-two (c .before .loop .inv) (c .loop-test .taken), c .before .loop .inv .kept, c .before .loop .inv .near, c .before .before .before .before .good)
 
-sub-xor-two : tie.Need-sub-xor-two Inv-loop μ-loop
-sub-xor-two c = search needs
-
-part-xor-two-start : tie.Need-part-xor-two-start Inv-loop μ-loop
-part-xor-two-start c = search needs
-
 part-xor-two-end : tie.Need-part-xor-two-end Inv-loop μ-loop
 part-xor-two-end c = omega (arith, within-two (c .before .before .loop .inv) (c .before .loop-test .taken), c .before .before .loop .inv .kept, c .before .before .loop .inv .near)
 
-sub-xor-two-2 : tie.Need-sub-xor-two-2 Inv-loop μ-loop
-sub-xor-two-2 c = search needs
-
-part-xor-two-start-2 : tie.Need-part-xor-two-start-2 Inv-loop μ-loop
-part-xor-two-start-2 c = search needs
-
 part-xor-two-end-2 : tie.Need-part-xor-two-end-2 Inv-loop μ-loop
 part-xor-two-end-2 c = omega (arith, within-two (c .before .before .before .loop .inv) (c .before .before .loop-test .taken), c .before .before .before .loop .inv .kept, c .before .before .before .loop .inv .near)
-
-xor-two-requires : tie.Need-xor-two-requires Inv-loop μ-loop
-xor-two-requires c κs = search needs
 
 add-i : tie.Need-add-i Inv-loop μ-loop
 add-i c =
@@ -130,9 +115,6 @@ add-i-2 c =
     let here = c .before .before .before .before .before .before in
     omega (arith, within-two (here .before .loop .inv) (here .loop-test .taken), here .before .before .before .before .good)
 
-sub-left : tie.Need-sub-left Inv-loop μ-loop
-sub-left c = search needs
-
 loop-less : tie.Need-loop-less Inv-loop μ-loop
 loop-less c = two-less _ (c .before .before .before .before .before .before .loop-test .taken)
 
@@ -140,9 +122,6 @@ loop-again : tie.Need-loop-again Inv-loop μ-loop
 loop-again c =
     let test = c .before .before .before .before .before .before in
     turn-two (test .before .loop .inv) (test .loop-test .taken) (c .before .before .xor-two .ensures)
-
-same-length : tie.Need-same-length Inv-loop μ-loop
-same-length c = search needs
 
 returns : tie.Need-returns Inv-loop μ-loop
 returns c =
@@ -155,20 +134,8 @@ add-from-2 c = omega (arith, reach (c .before .before .loop .inv) (omega (arith,
 add-end-2 : tie.Need-add-end-2 Inv-loop μ-loop
 add-end-2 c = omega (arith, reach (c .before .before .loop .inv) (omega (arith, c .if1 .left)), c .before .before .before .before .before .good)
 
-sub-xor-into : tie.Need-sub-xor-into Inv-loop μ-loop
-sub-xor-into c = search needs
-
-part-xor-into-start : tie.Need-part-xor-into-start Inv-loop μ-loop
-part-xor-into-start c = search needs
-
 part-xor-into-end : tie.Need-part-xor-into-end Inv-loop μ-loop
 part-xor-into-end c = reach (c .before .before .before .loop .inv) (omega (arith, c .before .if1 .left))
-
-xor-into-requires : tie.Need-xor-into-requires Inv-loop μ-loop
-xor-into-requires c κs = search needs
-
-same-length-2 : tie.Need-same-length-2 Inv-loop μ-loop
-same-length-2 c = search needs
 
 returns-2 : tie.Need-returns-2 Inv-loop μ-loop
 returns-2 c = search last
@@ -184,25 +151,21 @@ xor-stretch-spec =
     add-end
     add-next
     add-next-end
-    sub-xor-two
-    part-xor-two-start
+    (λ c. search needs) (λ c. search needs)
     part-xor-two-end
-    sub-xor-two-2
-    part-xor-two-start-2
+    (λ c. search needs) (λ c. search needs)
     part-xor-two-end-2
-    xor-two-requires
+    (λ c κs. search needs)
     add-i
     add-i-2
-    sub-left
+    (λ c. search needs)
     loop-less
     loop-again
-    same-length
+    (λ c. search needs)
     returns
     add-from-2
     add-end-2
-    sub-xor-into
-    part-xor-into-start
+    (λ c. search needs) (λ c. search needs)
     part-xor-into-end
-    xor-into-requires
-    same-length-2
+    (λ c κs. search needs) (λ c. search needs)
     returns-2)

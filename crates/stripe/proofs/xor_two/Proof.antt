@@ -31,34 +31,10 @@ Inv-loop d₀ a b i₀ d i = (length d ≡ length d₀) × ((i ≤ length a) × 
 abbrev μ-loop : tie.MeasureT-loop
 μ-loop d₀ a b i₀ d i = length a - i
 
-loop-holds : tie.Need-loop-holds Inv-loop μ-loop
-loop-holds c = search needs
-
-slice-read-d : tie.Need-slice-read-d Inv-loop μ-loop
-slice-read-d c = search needs
-
-shared-slice-read-d : tie.Need-shared-slice-read-d Inv-loop μ-loop
-shared-slice-read-d c = search needs
-
-shared-slice-read-d-2 : tie.Need-shared-slice-read-d-2 Inv-loop μ-loop
-shared-slice-read-d-2 c = search needs
-
-slice-write-d : tie.Need-slice-write-d Inv-loop μ-loop
-slice-write-d c = search needs
-
-add-i : tie.Need-add-i Inv-loop μ-loop
-add-i c = search needs
-
-loop-less : tie.Need-loop-less Inv-loop μ-loop
-loop-less c = search needs
-
 loop-again : tie.Need-loop-again Inv-loop μ-loop
 loop-again c =
     let l = c .before .before .before .before .loop in
     (simp length-set (l .inv .0), (omega arith, two-next (l .d) _ _ _ (l .i) _ (omega arith) (omega arith) (omega arith) refl (l .inv .1 .1)))
-
-same-length : tie.Need-same-length Inv-loop μ-loop
-same-length c = search needs
 
 returns : tie.Need-returns Inv-loop μ-loop
 returns c = two-end _ _ _ _ (c .before .loop .i) (omega arith) (c .before .loop .inv .1 .1)
@@ -69,13 +45,8 @@ xor-two-spec =
     (tie.spec
     Inv-loop
     μ-loop
-    loop-holds
-    slice-read-d
-    shared-slice-read-d
-    shared-slice-read-d-2
-    slice-write-d
-    add-i
-    loop-less
+    (λ c. search needs) (λ c. search needs) (λ c. search needs) (λ c. search needs)
+    (λ c. search needs) (λ c. search needs) (λ c. search needs)
     loop-again
-    same-length
+    (λ c. search needs)
     returns)

@@ -7,17 +7,13 @@ use borrow.Author.Needs.{needs}
 use Rattle.text.proofs.decimal_then.Statement.{statement}
 use Rattle.text.proofs.decimal_then.Tie as tie
 
-decimal-requires : tie.Need-decimal-requires
-decimal-requires c κs = search needs
-
 put-requires : tie.Need-put-requires
 put-requires c κs = omega (arith, decimal-end _ (c .before .before .before .decimal .ensures))
 
-same-length : tie.Need-same-length
-same-length c = search needs
-
-returns : tie.Need-returns
-returns c = search (written-then, needs)
-
 pub decimal-then-spec : {M : Type 1} → statement M
-decimal-then-spec = tie.close (tie.spec decimal-requires put-requires same-length returns)
+decimal-then-spec =
+    tie.close
+    (tie.spec
+    (λ c κs. search needs)
+    put-requires
+    (λ c. search needs) (λ c. search (written-then, needs)))

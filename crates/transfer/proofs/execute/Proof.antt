@@ -7,26 +7,11 @@ use borrow.Author.Needs.{needs}
 use Rattle.transfer.proofs.execute.Statement.{statement}
 use Rattle.transfer.proofs.execute.Tie as tie
 
-admit-requires : tie.Need-admit-requires
-admit-requires c κs = search needs
-
-enum-known-decided : tie.Need-enum-known-decided
-enum-known-decided c = search needs
-
-enum-known-decided-2 : tie.Need-enum-known-decided-2
-enum-known-decided-2 c = search needs
-
 perform-requires : tie.Need-perform-requires
 perform-requires c κs = admitted-ready _ _ _ _ _ (sym (c .before .before .before .before .before .admit .ensures) ∙ c .before .before .before .decided2 .given .1)
 
 returns : tie.Need-returns
 returns c = refused-outcome _ _ _ _ _ (sym (c .before .before .before .admit .ensures) ∙ c .before .decided .given .1)
-
-same-length : tie.Need-same-length
-same-length c = search needs
-
-same-length-2 : tie.Need-same-length-2
-same-length-2 c = search needs
 
 returns-2 : tie.Need-returns-2
 returns-2 c = went-outcome _ _ _ _ _ _ _ _ (sym (c .before .before .before .before .before .before .before .before .before .before .admit .ensures) ∙ c .before .before .before .before .before .before .before .before .decided2 .given .1) (c .before .before .before .before .perform .ensures)
@@ -35,11 +20,8 @@ pub execute-spec : {M : Type 1} → statement M
 execute-spec =
     tie.close
     (tie.spec
-    admit-requires
-    enum-known-decided
-    enum-known-decided-2
+    (λ c κs. search needs) (λ c. search needs) (λ c. search needs)
     perform-requires
     returns
-    same-length
-    same-length-2
+    (λ c. search needs) (λ c. search needs)
     returns-2)

@@ -1,20 +1,14 @@
 -- `transfer::hand_out`: whole blocks are copied, others stripped.
 -- Assumes nothing.
-use mathlib.Core.Path.{sym, ap, _∙_}
+use mathlib.Core.Path.{sym, _∙_}
 use native.Mathlib.Omega.{arith}
 use Rattle.transfer.proofs.Shapes.{moved-when-whole, parted, handed-whole, handed-parted, strip-fits, intervals-few}
 use borrow.Author.Needs.{needs}
 use Rattle.transfer.proofs.hand_out.Statement.{statement}
 use Rattle.transfer.proofs.hand_out.Tie as tie
 
-moved-whole-requires : tie.Need-moved-whole-requires
-moved-whole-requires c κs = search needs
-
 copy-requires : tie.Need-copy-requires
 copy-requires c κs = c .before .before .before .before .before .pre .0 .long ∙ sym (moved-when-whole _ _ (c .before .before .before .before .before .pre .0 .described) (c .before .before .before .before .before .pre .1 .plain) (sym (c .before .before .moved-whole .ensures) ∙ c .before .if1 .taken)) ∙ sym (c .before .before .before .before .before .pre .1 .room)
-
-same-length : tie.Need-same-length
-same-length c = search needs
 
 returns : tie.Need-returns
 returns c = c .before .before .copy .ensures ∙ sym (handed-whole _ _ _ (sym (c .before .before .before .before .before .moved-whole .ensures) ∙ c .before .before .before .before .if1 .taken))
@@ -31,9 +25,6 @@ mul-count c = rw (c .intervals .ensures) (omega (arith, intervals-few (c .before
 strip-requires : tie.Need-strip-requires
 strip-requires c κs = let f = strip-fits _ (c .before .before .before .before .before .before .before .args .c) _ _ (c .before .before .size .ensures) (c .before .intervals .ensures) _ _ (c .before .before .before .before .before .before .before .pre .0) (c .before .before .before .before .before .before .before .pre .1) (parted _ _ (sym (c .before .before .before .before .moved-whole .ensures) ∙ c .before .before .before .if1 .left)) in (f .0, f .1)
 
-same-length-2 : tie.Need-same-length-2
-same-length-2 c = search needs
-
 returns-2 : tie.Need-returns-2
 returns-2 c = handed-parted _ _ _ _ _ _ (sym (c .before .before .before .before .before .before .before .moved-whole .ensures) ∙ c .before .before .before .before .before .before .if1 .left) (c .before .before .before .before .before .size .ensures) (c .before .before .before .before .intervals .ensures) (c .before .before .strip .ensures)
 
@@ -41,13 +32,13 @@ pub hand-out-spec : {M : Type 1} → statement M
 hand-out-spec =
     tie.close
     (tie.spec
-    moved-whole-requires
+    (λ c κs. search needs)
     copy-requires
-    same-length
+    (λ c. search needs)
     returns
     size-requires
     intervals-requires
     mul-count
     strip-requires
-    same-length-2
+    (λ c. search needs)
     returns-2)

@@ -1,6 +1,6 @@
 -- `transfer::judge_all`: type 0 checks nothing; every other is a run of blocks.
 -- Assumes nothing.
-use mathlib.Core.Path.{sym, ap, _∙_}
+use mathlib.Core.Path.{sym, _∙_}
 use Rattle.transfer.proofs.Shapes.{judged-plain, judged-fields, run}
 use borrow.Author.Needs.{needs}
 use Rattle.transfer.proofs.judge_all.Statement.{statement}
@@ -12,9 +12,6 @@ returns c = sym (judged-plain _ _ _ (c .if1 .taken))
 rules-requires : tie.Need-rules-requires
 rules-requires c κs = c .before .before .before .pre .1 .described
 
-start-requires : tie.Need-start-requires
-start-requires c κs = search needs
-
 judge-blocks-requires : tie.Need-judge-blocks-requires
 judge-blocks-requires c κs = (c .before .before .before .before .before .pre .0, rw (c .before .rules .ensures, c .start .ensures) (run _ _ _ (c .before .before .before .before .before .pre .1) (c .before .before .if1 .left)))
 
@@ -23,4 +20,10 @@ returns-2 c = c .judge-blocks .ensures ∙ rw (c .before .before .rules .ensures
 
 pub judge-all-spec : {M : Type 1} → statement M
 judge-all-spec =
-    tie.close (tie.spec returns rules-requires start-requires judge-blocks-requires returns-2)
+    tie.close
+    (tie.spec
+    returns
+    rules-requires
+    (λ c κs. search needs)
+    judge-blocks-requires
+    returns-2)

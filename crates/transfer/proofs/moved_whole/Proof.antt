@@ -1,8 +1,7 @@
 -- `transfer::moved_whole`: the type and the code decide.
 -- Assumes nothing.
-use mathlib.Core.Path.{sym, ap, _∙_}
+use mathlib.Core.Path.{sym}
 use Rattle.transfer.proofs.Shapes.{whole-plain, whole-code, whole-not}
-use borrow.Author.Needs.{needs}
 use Rattle.transfer.proofs.moved_whole.Statement.{statement}
 use Rattle.transfer.proofs.moved_whole.Tie as tie
 

@@ -1,6 +1,6 @@
 -- `transfer::offset`: the blocks before it, whole.
 -- Assumes nothing.
-use mathlib.Core.Path.{sym, ap, _∙_}
+use mathlib.Core.Path.{ap}
 use Prim.Native.Nat.{ℕ, _*_, _-_}
 use native.Mathlib.Omega.{arith}
 use Rattle.transfer.specs.Transfer.{offsetOf}
@@ -8,9 +8,6 @@ use Rattle.transfer.proofs.Shapes.{offset-few}
 use borrow.Author.Needs.{needs}
 use Rattle.transfer.proofs.offset.Statement.{statement}
 use Rattle.transfer.proofs.offset.Tie as tie
-
-sub-result : tie.Need-sub-result
-sub-result c = search needs
 
 stored-requires : tie.Need-stored-requires
 stored-requires c κs = c .before .before .pre .0
@@ -23,4 +20,4 @@ unfolding offsetOf
 returns c = ap (λ (x : ℕ). (c .before .before .before .args .c .address - c .before .before .before .args .d .first) * x) (c .stored .ensures)
 
 pub offset-spec : {M : Type 1} → statement M
-offset-spec = tie.close (tie.spec sub-result stored-requires mul-result returns)
+offset-spec = tie.close (tie.spec (λ c. search needs) stored-requires mul-result returns)

@@ -8,9 +8,6 @@ use borrow.Author.Needs.{needs}
 use Rattle.transfer.proofs.perform.Statement.{statement}
 use Rattle.transfer.proofs.perform.Tie as tie
 
-table-requires : tie.Need-table-requires
-table-requires c κs = search needs
-
 offset-requires : tie.Need-offset-requires
 offset-requires c κs = located (c .before .before .before .pre)
 
@@ -23,59 +20,44 @@ add-end c = omega (arith, within (c .before .before .before .before .before .pre
 enum-told : tie.Need-enum-told
 enum-told c = search needs
 
-sub-read : tie.Need-sub-read
-sub-read c = search needs
-
-part-read-start : tie.Need-part-read-start
-part-read-start c = search needs
-
 part-read-end : tie.Need-part-read-end
-part-read-end c = within (c .before .before .before .before .before .before .before .before .before .pre) _ _ (c .before .before .before .before .before .offset .ensures) (c .before .before .before .before .span .ensures)
+part-read-end c =
+    let span = c .before .before .before .before in
+    within (span .before .before .before .before .before .pre) _ _ (span .before .offset .ensures) (span .span .ensures)
 
 read-requires : tie.Need-read-requires
-read-requires c κs = (c .before .before .before .before .before .before .before .before .table .ensures, (shaped (c .before .before .before .before .before .before .before .before .before .before .before .pre) _ _ _ refl (c .before .before .before .before .before .before .before .offset .ensures) (c .before .before .before .before .before .before .span .ensures), fitted (c .before .before .before .before .before .before .before .before .before .before .before .pre) (ap isVerify (c .before .before .before .before .enum-told .given .1))))
-
-enum-told-2 : tie.Need-enum-told-2
-enum-told-2 c = search needs
+read-requires c κs =
+    let span = c .before .before .before .before .before .before in
+    let pre = span .before .before .before .before .before .pre in
+    (span .before .before .table .ensures, (shaped pre _ _ _ refl (span .before .offset .ensures) (span .span .ensures), fitted pre (ap isVerify (c .before .before .before .before .enum-told .given .1))))
 
 write-requires : tie.Need-write-requires
-write-requires c κs = (c .before .before .before .before .before .before .before .table .ensures, (placed (c .before .before .before .before .before .before .before .before .before .before .pre) _ (c .before .before .before .before .before .before .offset .ensures), fitted (c .before .before .before .before .before .before .before .before .before .before .pre) (ap isVerify (c .before .before .before .enum-told2 .given .1))))
-
-enum-told-3 : tie.Need-enum-told-3
-enum-told-3 c = search needs
-
-sub-judge-all : tie.Need-sub-judge-all
-sub-judge-all c = search needs
-
-part-judge-all-start : tie.Need-part-judge-all-start
-part-judge-all-start c = search needs
+write-requires c κs =
+    let span = c .before .before .before .before .before in
+    let pre = span .before .before .before .before .before .pre in
+    (span .before .before .table .ensures, (placed pre _ (span .before .offset .ensures), fitted pre (ap isVerify (c .before .before .before .enum-told2 .given .1))))
 
 part-judge-all-end : tie.Need-part-judge-all-end
-part-judge-all-end c = within (c .before .before .before .before .before .before .before .before .before .pre) _ _ (c .before .before .before .before .before .offset .ensures) (c .before .before .before .before .span .ensures)
+part-judge-all-end c =
+    let span = c .before .before .before .before in
+    within (span .before .before .before .before .before .pre) _ _ (span .before .offset .ensures) (span .span .ensures)
 
 judge-all-requires : tie.Need-judge-all-requires
-judge-all-requires c κs = (c .before .before .before .before .before .before .before .table .ensures, shaped (c .before .before .before .before .before .before .before .before .before .before .pre) _ _ _ refl (c .before .before .before .before .before .before .offset .ensures) (c .before .before .before .before .before .span .ensures))
-
-same-length : tie.Need-same-length
-same-length c = search needs
-
-same-length-2 : tie.Need-same-length-2
-same-length-2 c = search needs
+judge-all-requires c κs =
+    let span = c .before .before .before .before .before in
+    let pre = span .before .before .before .before .before .pre in
+    (span .before .before .table .ensures, shaped pre _ _ _ refl (span .before .offset .ensures) (span .span .ensures))
 
 returns : tie.Need-returns
-returns c = read-outcome _ _ _ _ _ _ _ (c .before .before .before .before .before .before .before .enum-told .given .1) (blocks-are _ _ _ _ _ (c .before .before .before .before .before .before .before .before .before .before .offset .ensures) (c .before .before .before .before .before .before .before .before .before .span .ensures)) (c .before .before .read .ensures)
-
-same-length-3 : tie.Need-same-length-3
-same-length-3 c = search needs
-
-same-length-4 : tie.Need-same-length-4
-same-length-4 c = search needs
+returns c =
+    let told = c .before .before .before .before .before .before .before in
+    let span = told .before .before in
+    read-outcome _ _ _ _ _ _ _ (told .enum-told .given .1) (blocks-are _ _ _ _ _ (span .before .offset .ensures) (span .span .ensures)) (c .before .before .read .ensures)
 
 returns-2 : tie.Need-returns-2
-returns-2 c = write-outcome _ _ _ _ _ _ _ (c .before .before .before .before .before .before .enum-told2 .given .1) (c .before .before .before .before .before .before .before .before .before .offset .ensures) (c .before .before .write .ensures)
-
-same-length-5 : tie.Need-same-length-5
-same-length-5 c = search needs
+returns-2 c =
+    let told = c .before .before .before .before .before .before in
+    write-outcome _ _ _ _ _ _ _ (told .enum-told2 .given .1) (told .before .before .before .offset .ensures) (c .before .before .write .ensures)
 
 returns-3 : tie.Need-returns-3
 returns-3 c = verify-outcome _ _ _ _ _ _ (c .before .before .before .before .enum-told3 .given .1) (blocks-are _ _ _ _ _ (c .before .before .before .before .before .before .before .offset .ensures) (c .before .before .before .before .before .before .span .ensures)) (c .judge-all .ensures)
@@ -84,27 +66,22 @@ pub perform-spec : {M : Type 1} → statement M
 perform-spec =
     tie.close
     (tie.spec
-    table-requires
+    (λ c κs. search needs)
     offset-requires
     span-requires
     add-end
     enum-told
-    sub-read
-    part-read-start
+    (λ c. search needs) (λ c. search needs)
     part-read-end
     read-requires
-    enum-told-2
+    (λ c. search needs)
     write-requires
-    enum-told-3
-    sub-judge-all
-    part-judge-all-start
+    (λ c. search needs) (λ c. search needs) (λ c. search needs)
     part-judge-all-end
     judge-all-requires
-    same-length
-    same-length-2
+    (λ c. search needs) (λ c. search needs)
     returns
-    same-length-3
-    same-length-4
+    (λ c. search needs) (λ c. search needs)
     returns-2
-    same-length-5
+    (λ c. search needs)
     returns-3)

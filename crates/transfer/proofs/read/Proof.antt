@@ -8,14 +8,8 @@ use Rattle.transfer.proofs.read.Tie as tie
 judge-all-requires : tie.Need-judge-all-requires
 judge-all-requires c κs = (c .before .before .pre .0, c .before .before .pre .1 .0)
 
-good-requires : tie.Need-good-requires
-good-requires c κs = search needs
-
 hand-out-requires : tie.Need-hand-out-requires
 hand-out-requires c κs = (c .before .before .before .before .before .before .pre .1 .0, c .before .before .before .before .before .before .pre .1 .1)
-
-same-length : tie.Need-same-length
-same-length c = search needs
 
 returns : tie.Need-returns
 returns c = read-good _ _ _ _ (c .before .before .before .before .before .good2 .ensures) _ _ _ (c .before .before .before .before .before .before .judge-all .ensures) (c .before .before .before .before .if1 .taken) (c .before .before .hand-out .ensures)
@@ -26,4 +20,10 @@ returns-2 c = read-refused _ _ _ _ (c .before .good2 .ensures) _ _ (c .before .b
 pub read-spec : {M : Type 1} → statement M
 read-spec =
     tie.close
-    (tie.spec judge-all-requires good-requires hand-out-requires same-length returns returns-2)
+    (tie.spec
+    judge-all-requires
+    (λ c κs. search needs)
+    hand-out-requires
+    (λ c. search needs)
+    returns
+    returns-2)

@@ -1,11 +1,10 @@
 -- `transfer::span`: its blocks, whole.
 -- Assumes nothing.
-use mathlib.Core.Path.{sym, ap, _∙_}
+use mathlib.Core.Path.{ap}
 use Prim.Native.Nat.{ℕ, _*_}
 use native.Mathlib.Omega.{arith}
 use Rattle.transfer.specs.Transfer.{spanOf}
 use Rattle.transfer.proofs.Shapes.{span-few}
-use borrow.Author.Needs.{needs}
 use Rattle.transfer.proofs.span.Statement.{statement}
 use Rattle.transfer.proofs.span.Tie as tie
 

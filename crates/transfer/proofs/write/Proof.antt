@@ -8,23 +8,14 @@ use Rattle.transfer.proofs.write.Tie as tie
 store-requires : tie.Need-store-requires
 store-requires c κs = (c .before .before .before .before .before .pre .0, (c .before .before .before .before .before .pre .1 .0, c .before .before .before .before .before .pre .1 .1))
 
-same-length : tie.Need-same-length
-same-length c = search needs
-
 returns : tie.Need-returns
 returns c = write-zero _ _ _ _ _ _ (c .before .before .before .before .if1 .taken) (c .before .before .store .ensures)
 
 judge-all-requires : tie.Need-judge-all-requires
 judge-all-requires c κs = (c .before .before .before .before .pre .0, shaped-buffer _ _ _ _ _ (c .before .before .before .before .pre .1 .0) (c .before .before .before .before .pre .1 .1) (c .if1 .left))
 
-good-requires : tie.Need-good-requires
-good-requires c κs = search needs
-
 store-requires-2 : tie.Need-store-requires-2
 store-requires-2 c κs = (c .before .before .before .before .before .before .before .before .pre .0, (c .before .before .before .before .before .before .before .before .pre .1 .0, c .before .before .before .before .before .before .before .before .pre .1 .1))
-
-same-length-2 : tie.Need-same-length-2
-same-length-2 c = search needs
 
 returns-2 : tie.Need-returns-2
 returns-2 c = write-good _ _ _ _ (c .before .before .before .before .before .good2 .ensures) _ _ _ _ (c .before .before .before .before .before .before .before .if1 .left) (c .before .before .before .before .before .before .judge-all .ensures) (c .before .before .before .before .if2 .taken) (c .before .before .store2 .ensures)
@@ -37,11 +28,11 @@ write-spec =
     tie.close
     (tie.spec
     store-requires
-    same-length
+    (λ c. search needs)
     returns
     judge-all-requires
-    good-requires
+    (λ c κs. search needs)
     store-requires-2
-    same-length-2
+    (λ c. search needs)
     returns-2
     returns-3)

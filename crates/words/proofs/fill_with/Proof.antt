@@ -1,10 +1,10 @@
 -- `words::fill_with`: what is filled, and what is left of the old bytes.
 -- Assumes nothing.
-use mathlib.Core.Path.{_≡_, refl, sym, ap, _∙_}
+use mathlib.Core.Path.{_≡_, ap, _∙_}
 use mathlib.Core.List.{List, _++_, append-nil}
 use Prim.Native.Nat.{ℕ, _≤_, _<_, _-_}
 use native.Mathlib.Omega.{arith}
-use borrow.Author.Fill.{fill-none, fill-more}
+use borrow.Author.Fill.{fill-more}
 use lib.ListN.{length, drop, set, replicate, length-set, drop-of-length-le}
 use borrow.Author.Needs.{needs}
 use Rattle.words.proofs.fill_with.Statement.{statement}
@@ -21,26 +21,11 @@ Inv-loop d₀ b i₀ d i = (length d ≡ length d₀) × (i ≤ length d₀) × 
 abbrev μ-loop : tie.MeasureT-loop
 μ-loop d₀ b i₀ d i = length d₀ - i
 
-loop-holds : tie.Need-loop-holds Inv-loop μ-loop
-loop-holds c = search needs
-
-slice-write-d : tie.Need-slice-write-d Inv-loop μ-loop
-slice-write-d c = search needs
-
-add-i : tie.Need-add-i Inv-loop μ-loop
-add-i c = search needs
-
-loop-less : tie.Need-loop-less Inv-loop μ-loop
-loop-less c = search needs
-
 loop-again : tie.Need-loop-again Inv-loop μ-loop
 loop-again c =
     let l = c .before .loop in
     let here : l .i < length (c .before .before .args .d .now) = omega arith in
     (simp length-set (l .inv .0), omega arith, ap (λ (x : List ℕ). set x (l .i) (c .before .before .args .b)) (l .inv .2) ∙ fill-more (l .i) _ _ here)
-
-same-length : tie.Need-same-length Inv-loop μ-loop
-same-length c = search needs
 
 returns : tie.Need-returns Inv-loop μ-loop
 returns c =
@@ -53,10 +38,7 @@ fill-with-spec =
     (tie.spec
     Inv-loop
     μ-loop
-    loop-holds
-    slice-write-d
-    add-i
-    loop-less
+    (λ c. search needs) (λ c. search needs) (λ c. search needs) (λ c. search needs)
     loop-again
-    same-length
+    (λ c. search needs)
     returns)

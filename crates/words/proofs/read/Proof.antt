@@ -23,9 +23,6 @@ loop-holds c = (zero-le, lit< tt, refl)
 mul-n : tie.Need-mul-n Inv-loop μ-loop
 mul-n c = omega (arith, room _ _ (c .before .loop .inv .1) (omega arith))
 
-shared-slice-read-n : tie.Need-shared-slice-read-n Inv-loop μ-loop
-shared-slice-read-n c = omega arith
-
 cast-n : tie.Need-cast-n Inv-loop μ-loop
 cast-n c = omega (arith, c .shared-slice-known .given (c .before .before .loop .i))
 
@@ -33,12 +30,6 @@ add-n : tie.Need-add-n Inv-loop μ-loop
 add-n c =
     omega
     (arith, c .shared-slice-known .given (c .before .before .loop .i), room _ _ (c .before .before .loop .inv .1) (omega arith))
-
-add-i : tie.Need-add-i Inv-loop μ-loop
-add-i c = omega arith
-
-loop-less : tie.Need-loop-less Inv-loop μ-loop
-loop-less c = omega arith
 
 loop-again : tie.Need-loop-again Inv-loop μ-loop
 loop-again c =
@@ -59,10 +50,9 @@ read-spec =
     μ-loop
     loop-holds
     mul-n
-    shared-slice-read-n
+    (λ c. omega arith)
     cast-n
     add-n
-    add-i
-    loop-less
+    (λ c. omega arith) (λ c. omega arith)
     loop-again
     returns)

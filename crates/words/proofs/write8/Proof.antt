@@ -5,28 +5,13 @@ use Rattle.words.proofs.BigEndian.{put-part}
 use Rattle.words.proofs.write8.Statement.{statement}
 use Rattle.words.proofs.write8.Tie as tie
 
-add-end : tie.Need-add-end
-add-end c = search needs
-
-sub-write : tie.Need-sub-write
-sub-write c = search needs
-
-part-write-start : tie.Need-part-write-start
-part-write-start c = search needs
-
-part-write-end : tie.Need-part-write-end
-part-write-end c = search needs
-
-write-requires : tie.Need-write-requires
-write-requires c κs = search needs
-
-same-length : tie.Need-same-length
-same-length c = search needs
-
 returns : tie.Need-returns
 returns c = put-part _ 8 _ _ _ (c .before .before .before .before .before .pre) (c .before .before .write .ensures)
 
 pub write8-spec : {M : Type 1} → statement M
 write8-spec =
     tie.close
-    (tie.spec add-end sub-write part-write-start part-write-end write-requires same-length returns)
+    (tie.spec
+    (λ c. search needs) (λ c. search needs) (λ c. search needs) (λ c. search needs)
+    (λ c κs. search needs) (λ c. search needs)
+    returns)
