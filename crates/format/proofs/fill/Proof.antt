@@ -69,7 +69,11 @@ fill-intervals-requires : tie.Need-fill-intervals-requires
 fill-intervals-requires c κs = whole _ _ _ _ (described _ _ (c .before .before .before .before .before .before .before .before .fit .ensures) (c .before .before .before .before .before .before .before .if1 .left)) (c .before .before .before .if3 .left) (c .before .before .size .ensures) (c .before .intervals .ensures) (c .before .before .before .before .before .if2 .left ∙ c .before .before .before .before .before .before .length .ensures)
 
 returns-4 : tie.Need-returns-4
-returns-4 c = good _ _ _ (described _ _ (c .before .before .before .before .before .before .before .before .before .before .before .fit .ensures) (c .before .before .before .before .before .before .before .before .before .before .if1 .left)) (c .before .before .before .before .before .before .before .before .if2 .left ∙ c .before .before .before .before .before .before .before .before .before .length .ensures) (fields _ _ _ _ (c .before .before .before .before .before .before .if3 .left) (c .before .before .before .before .before .size .ensures) (c .before .before .before .before .intervals .ensures) (c .before .before .fill-intervals .ensures))
+returns-4 c =
+    let typed = c .before .before .before .before .before .before in
+    let one = typed .before .before .before .before in
+    good _ _ _ (described _ _ (one .before .fit .ensures) (one .if1 .left)) (typed .before .before .if2 .left ∙ typed .before .before .before .length .ensures)
+    (fields _ _ _ _ (typed .if3 .left) (c .before .before .before .before .before .size .ensures) (c .before .before .before .before .intervals .ensures) (c .before .before .fill-intervals .ensures))
 
 pub fill-spec : {M : Type 1} → statement M
 fill-spec =
