@@ -1,5 +1,7 @@
 //! A call of an exported function, and what it leaves.
 
+use std::fmt;
+
 use reference::Description;
 
 #[derive(Clone, Copy, Debug, PartialEq, Eq)]
@@ -80,7 +82,13 @@ pub struct Call {
     pub function: Function,
     pub numbers: Vec<u64>,
     pub lent: Vec<Vec<u8>>,
+    /// The slice that is lent with `VAST` zeros behind its bytes, if there is one.
+    pub vast: Option<usize>,
 }
+
+/// More bytes than 32 bits can count. No memory holds them until they are touched,
+/// and none should be: a length says enough.
+pub const VAST: usize = 1 << 32;
 
 impl Call {
     pub fn new<const N: usize>(function: Function, numbers: &[u64], lent: [&[u8]; N]) -> Self {
@@ -88,7 +96,21 @@ impl Call {
             function,
             numbers: numbers.to_vec(),
             lent: lent.map(<[u8]>::to_vec).into(),
+            vast: None,
         }
+    }
+
+    /// The call with each slice in turn so long.
+    pub fn each_vast(&self) -> impl Iterator<Item = Call> {
+        (0..self.lent.len()).map(|number| Call {
+            vast: Some(number),
+            ..self.clone()
+        })
+    }
+
+    /// How many zeros are lent behind the bytes of a slice.
+    pub fn behind(&self, number: usize) -> usize {
+        if self.vast == Some(number) { VAST } else { 0 }
     }
 
     /// A call whose first numbers are a description.
@@ -100,6 +122,20 @@ impl Call {
     ) -> Self {
         let first = [desc.p, desc.b, desc.e, desc.w, desc.n, desc.ato];
         Call::new(function, &[&first, numbers].concat(), lent)
+    }
+}
+
+impl fmt::Display for Call {
+    fn fmt(&self, f: &mut fmt::Formatter<'_>) -> fmt::Result {
+        writeln!(f, "function {}", self.function.name())?;
+        write!(f, "numbers {:X?}", self.numbers)?;
+        for (number, bytes) in self.lent.iter().enumerate() {
+            write!(f, "\nlent {number}: {}", Hex(bytes))?;
+            if self.vast == Some(number) {
+                write!(f, " and {VAST} zeros")?;
+            }
+        }
+        Ok(())
     }
 }
 
@@ -134,4 +170,21 @@ pub trait Library {
         lent: &[Lent],
         places: &[*mut u64],
     ) -> u64;
+}
+
+/// Bytes in hexadecimal, cut where they grow long.
+pub struct Hex<'a>(pub &'a [u8]);
+
+impl fmt::Display for Hex<'_> {
+    fn fmt(&self, f: &mut fmt::Formatter<'_>) -> fmt::Result {
+        const SHOWN: usize = 512;
+        write!(f, "{} bytes ", self.0.len())?;
+        for byte in self.0.iter().take(SHOWN) {
+            write!(f, "{byte:02X}")?;
+        }
+        if self.0.len() > SHOWN {
+            f.write_str("..")?;
+        }
+        Ok(())
+    }
 }

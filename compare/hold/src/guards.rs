@@ -2,6 +2,7 @@
 
 use crate::call::{Call, Function};
 use crate::numbers::Numbers;
+use crate::segment::{CUTS, FAR_CUTS};
 use crate::trial::{Held, Put};
 
 pub fn each(put: Put<'_>) -> Held {
@@ -9,6 +10,12 @@ pub fn each(put: Put<'_>) -> Held {
     every_short_interval(put)?;
     runs(put)?;
     senses(put)
+}
+
+/// Great lengths, sizes and counts, and lengths right only when they are cut.
+pub fn large(put: Put<'_>) -> Held {
+    long(put)?;
+    long_runs(put)
 }
 
 fn guard(data: &[u8]) -> [Call; 2] {
@@ -79,6 +86,58 @@ fn runs(put: Put<'_>) -> Held {
         }
     }
     Ok(())
+}
+
+/// Lengths about the powers of two, to some MiB.
+fn long(put: Put<'_>) -> Held {
+    let mut numbers = Numbers::new(8);
+    for bits in 10..=22 {
+        for length in [(1 << bits) - 1, 1 << bits, (1 << bits) + 1] {
+            let data = numbers.bytes(length);
+            guard(&data).into_iter().try_for_each(&mut *put)?;
+        }
+    }
+    let [table, division] = guard(&numbers.bytes((1 << 24) + 3));
+    put(table)?;
+    put(division)?;
+    let [table, _] = guard(&numbers.bytes((1 << 27) + 5));
+    put(table)
+}
+
+/// Great sizes and great counts, and lengths and sizes that are right only if they
+/// are cut to some number of bits.
+fn long_runs(put: Put<'_>) -> Held {
+    let mut numbers = Numbers::new(9);
+    let about = |bits: u32| [(1 << bits) - 1, 1 << bits, (1 << bits) + 1];
+    for bits in [8, 10, 12, 15, 16, 17, 20] {
+        for great in about(bits) {
+            for (size, count) in [(great, 1), (great, 3), (1, great), (3, great)] {
+                let data = numbers.bytes(size * count);
+                put(guards(&data, size as u64, 2 * count))?;
+                // The last interval's guard has no place.
+                put(guards(&data, size as u64, 2 * count - 2))?;
+            }
+        }
+    }
+    for bits in CUTS.into_iter().chain(FAR_CUTS) {
+        let more = 1 << bits;
+        let data = numbers.bytes(24 + more);
+        put(guards(&data[..24], 8, 6 + more))?;
+        put(guards(&data[..24], 8 + more as u64, 6))?;
+        put(guards(&data, 8, 6))?;
+        put(guards(
+            &data[..(more + 24) / 8 * 8],
+            8,
+            (more + 24) / 4 % more,
+        ))?;
+        put(guards(&data[..24], more as u64, 0))?;
+    }
+    Ok(())
+}
+
+/// Data and places longer by more bytes than 32 bits can count.
+pub fn every_vast(put: Put<'_>) -> Held {
+    guards(&[0xC3; 24], 8, 6).each_vast().try_for_each(put)
 }
 
 /// All small numbers, and those that become one when they are cut.

@@ -2,7 +2,10 @@
 
 use reference::Description;
 
-use crate::call::{Call, Function, Left};
+use crate::call::{Call, Function, Left, VAST};
+use crate::pages::Pages;
+
+const OTHERS: &str = "not the function's numbers and slices";
 
 /// What a call must leave, and its answer number if it gives one.
 pub struct Told {
@@ -14,11 +17,17 @@ pub struct Told {
 /// If the call has not the numbers and slices of its function.
 pub fn tell(call: &Call) -> Told {
     let mut lent = call.lent.clone();
-    let (returned, places, answer) = match call.function {
-        Function::Execute | Function::Fill => on_segment(call, &mut lent),
-        Function::Parity | Function::Rebuild | Function::Correct => on_stripe(call, &mut lent),
-        _ => on_bytes(call, &mut lent),
-    };
+    let mut slices: Vec<&mut [u8]> = lent.iter_mut().map(Vec::as_mut_slice).collect();
+    let mut pages = call.vast.map(|number| vast(&call.lent[number]));
+    if let Some((number, pages)) = call.vast.zip(pages.as_mut()) {
+        let length = slices[number].len() + VAST;
+        slices[number] = &mut pages.bytes_mut()[..length];
+    }
+    let (returned, places, answer) = call_reference(call.function, &call.numbers, &mut slices);
+    if let Some((number, pages)) = call.vast.zip(pages.as_ref()) {
+        let length = lent[number].len();
+        lent[number].copy_from_slice(&pages.bytes()[..length]);
+    }
     Told {
         left: Left {
             returned,
@@ -30,8 +39,27 @@ pub fn tell(call: &Call) -> Told {
     }
 }
 
+/// These bytes and the zeros behind them.
+fn vast(bytes: &[u8]) -> Pages {
+    let mut pages = Pages::new(bytes.len() + VAST);
+    pages.bytes_mut()[..bytes.len()].copy_from_slice(bytes);
+    pages
+}
+
 /// The number handed back, the numbers in the places, the answer.
-type Numbers = (u64, Vec<u64>, Option<u64>);
+pub type Numbers = (u64, Vec<u64>, Option<u64>);
+
+/// Calls the reference with a call's numbers and slices.
+///
+/// # Panics
+/// If they are not those of the function.
+pub fn call_reference(function: Function, numbers: &[u64], lent: &mut [&mut [u8]]) -> Numbers {
+    match function {
+        Function::Execute | Function::Fill => on_segment(numbers, lent),
+        Function::Parity | Function::Rebuild | Function::Correct => on_stripe(numbers, lent),
+        _ => on_bytes(function, numbers, lent),
+    }
+}
 
 fn answered(answer: u64) -> Numbers {
     (answer, Vec::new(), Some(answer))
@@ -46,8 +74,8 @@ fn description(numbers: &[u64]) -> (Description, &[u64]) {
     (Description { p, b, e, w, n, ato }, rest)
 }
 
-fn on_segment(call: &Call, lent: &mut [Vec<u8>]) -> Numbers {
-    let (desc, _) = description(&call.numbers);
+fn on_segment(numbers: &[u64], lent: &mut [&mut [u8]]) -> Numbers {
+    let (desc, _) = description(numbers);
     match lent {
         [segment, command, buffer] => {
             let outcome = reference::execute(&desc, segment, command, buffer);
@@ -55,22 +83,22 @@ fn on_segment(call: &Call, lent: &mut [Vec<u8>]) -> Numbers {
             (outcome.answer, places, Some(outcome.answer))
         }
         [segment] => answered(reference::fill(&desc, segment)),
-        _ => panic!("{call:?}"),
+        _ => panic!("{OTHERS}"),
     }
 }
 
-fn on_stripe(call: &Call, lent: &mut [Vec<u8>]) -> Numbers {
-    let (desc, rest) = description(&call.numbers);
+fn on_stripe(numbers: &[u64], lent: &mut [&mut [u8]]) -> Numbers {
+    let (desc, rest) = description(numbers);
     answered(match (rest, lent) {
         (&[k], [members, out]) => reference::parity(&desc, k, members, out),
         (&[k, lost], [parts, out]) => reference::rebuild(&desc, k, lost, parts, out),
         (&[], [old, fresh, parity]) => reference::correct(&desc, old, fresh, parity),
-        _ => panic!("{call:?}"),
+        _ => panic!("{OTHERS}"),
     })
 }
 
-fn on_bytes(call: &Call, lent: &mut [Vec<u8>]) -> Numbers {
-    match (call.function, &call.numbers[..], lent) {
+fn on_bytes(function: Function, numbers: &[u64], lent: &mut [&mut [u8]]) -> Numbers {
+    match (function, numbers, lent) {
         (Function::Format, &[spt, protect, fmtpinfo, usage], []) => {
             let (answer, kind) = reference::format_choice(spt, protect, fmtpinfo, usage);
             (answer, vec![kind], Some(answer))
@@ -80,7 +108,7 @@ fn on_bytes(call: &Call, lent: &mut [Vec<u8>]) -> Numbers {
         (Function::Guards, &[size], [data, out]) => answered(guards(data, size, out)),
         (Function::List, [], [input, out]) => list(input, out),
         (Function::Sense, &[number], []) => plain(sense(number)),
-        _ => panic!("{call:?}"),
+        _ => panic!("{OTHERS}"),
     }
 }
 
