@@ -82,13 +82,14 @@ pub struct Call {
     pub function: Function,
     pub numbers: Vec<u64>,
     pub lent: Vec<Vec<u8>>,
-    /// The slice that is lent with `VAST` zeros behind its bytes, if there is one.
-    pub vast: Option<usize>,
+    /// A slice that is lent with so many zeros behind its bytes, if there is one. No
+    /// memory holds them until they are touched, and none should be: the length says
+    /// enough.
+    pub zeros: Option<(usize, usize)>,
 }
 
-/// More bytes than 32 bits can count. No memory holds them until they are touched,
-/// and none should be: a length says enough.
-pub const VAST: usize = 1 << 32;
+/// Numbers of bits that a length may be cut to by mistake.
+pub const CUTS: [u32; 10] = [8, 10, 12, 15, 16, 17, 20, 24, 27, 32];
 
 impl Call {
     pub fn new<const N: usize>(function: Function, numbers: &[u64], lent: [&[u8]; N]) -> Self {
@@ -96,21 +97,31 @@ impl Call {
             function,
             numbers: numbers.to_vec(),
             lent: lent.map(<[u8]>::to_vec).into(),
-            vast: None,
+            zeros: None,
         }
     }
 
-    /// The call with each slice in turn so long.
-    pub fn each_vast(&self) -> impl Iterator<Item = Call> {
-        (0..self.lent.len()).map(|number| Call {
-            vast: Some(number),
-            ..self.clone()
-        })
+    /// The call with each slice in turn too long: it has the right length only for
+    /// who cuts that to some number of bits.
+    pub fn each_cut(&self) -> impl Iterator<Item = Call> {
+        let slices = 0..self.lent.len();
+        let longer = slices.flat_map(|number| CUTS.map(|bits| (number, 1 << bits)));
+        longer.map(|zeros| self.clone().with_zeros(zeros))
+    }
+
+    pub fn with_zeros(self, zeros: (usize, usize)) -> Self {
+        Call {
+            zeros: Some(zeros),
+            ..self
+        }
     }
 
     /// How many zeros are lent behind the bytes of a slice.
     pub fn behind(&self, number: usize) -> usize {
-        if self.vast == Some(number) { VAST } else { 0 }
+        match self.zeros {
+            Some((slice, count)) if slice == number => count,
+            _ => 0,
+        }
     }
 
     /// A call whose first numbers are a description.
@@ -131,8 +142,8 @@ impl fmt::Display for Call {
         write!(f, "numbers {:X?}", self.numbers)?;
         for (number, bytes) in self.lent.iter().enumerate() {
             write!(f, "\nlent {number}: {}", Hex(bytes))?;
-            if self.vast == Some(number) {
-                write!(f, " and {VAST} zeros")?;
+            if self.behind(number) > 0 {
+                write!(f, " and {} zeros", self.behind(number))?;
             }
         }
         Ok(())

@@ -5,8 +5,8 @@ use reference::Description;
 use crate::call::{Call, Function};
 use crate::numbers::Numbers;
 use crate::segment::{
-    CUTS, FAR_CUTS, SHAPES, any_good, each_bad, just_above, one_bit_away, one_number_away,
-    segment_length, spoil, stretch,
+    SHAPES, any_good, each_bad, just_above, one_bit_away, one_number_away, segment_length, spoil,
+    stretch,
 };
 use crate::trial::{Held, Put};
 
@@ -103,12 +103,8 @@ fn every_cut(put: Put<'_>) -> Held {
     for (p, e) in SHAPES {
         for b in [8, 4_096] {
             let desc = described(p, b, e, 2);
-            for bits in CUTS {
-                put(fill(
-                    &desc,
-                    &vec![0xC3; segment_length(&desc) + (1 << bits)],
-                ))?;
-            }
+            let right = fill(&desc, &vec![0xC3; segment_length(&desc)]);
+            right.each_cut().try_for_each(&mut *put)?;
             for bits in 8..=28 {
                 if let Some((desc, cut)) = just_above(&desc, bits) {
                     put(fill(&desc, &vec![0xC3; cut]))?;
@@ -116,21 +112,7 @@ fn every_cut(put: Put<'_>) -> Held {
             }
         }
     }
-    let desc = described(1, 8, 0, 2);
-    for bits in FAR_CUTS {
-        put(fill(
-            &desc,
-            &vec![0xC3; segment_length(&desc) + (1 << bits)],
-        ))?;
-    }
     Ok(())
-}
-
-/// A segment longer by more bytes than 32 bits can count.
-pub fn every_vast(put: Put<'_>) -> Held {
-    let desc = described(1, 8, 0, 2);
-    let right = fill(&desc, &vec![0xC3; segment_length(&desc)]);
-    right.each_vast().try_for_each(put)
 }
 
 /// Great blocks in numbers about the powers of two, and the most bytes that there

@@ -2,7 +2,6 @@
 
 use crate::call::{Call, Function};
 use crate::numbers::Numbers;
-use crate::segment::{CUTS, FAR_CUTS};
 use crate::trial::{Held, Put};
 
 pub fn each(put: Put<'_>) -> Held {
@@ -14,8 +13,9 @@ pub fn each(put: Put<'_>) -> Held {
 
 /// Great lengths, sizes and counts, and lengths right only when they are cut.
 pub fn large(put: Put<'_>) -> Held {
-    long(put)?;
-    long_runs(put)
+    every_cut(put)?;
+    long_runs(put)?;
+    long(put)
 }
 
 fn guard(data: &[u8]) -> [Call; 2] {
@@ -104,8 +104,7 @@ fn long(put: Put<'_>) -> Held {
     put(table)
 }
 
-/// Great sizes and great counts, and lengths and sizes that are right only if they
-/// are cut to some number of bits.
+/// Great sizes and great counts.
 fn long_runs(put: Put<'_>) -> Held {
     let mut numbers = Numbers::new(9);
     let about = |bits: u32| [(1 << bits) - 1, 1 << bits, (1 << bits) + 1];
@@ -119,25 +118,21 @@ fn long_runs(put: Put<'_>) -> Held {
             }
         }
     }
-    for bits in CUTS.into_iter().chain(FAR_CUTS) {
-        let more = 1 << bits;
-        let data = numbers.bytes(24 + more);
-        put(guards(&data[..24], 8, 6 + more))?;
-        put(guards(&data[..24], 8 + more as u64, 6))?;
-        put(guards(&data, 8, 6))?;
-        put(guards(
-            &data[..(more + 24) / 8 * 8],
-            8,
-            (more + 24) / 4 % more,
-        ))?;
-        put(guards(&data[..24], more as u64, 0))?;
-    }
     Ok(())
 }
 
-/// Data and places longer by more bytes than 32 bits can count.
-pub fn every_vast(put: Put<'_>) -> Held {
-    guards(&[0xC3; 24], 8, 6).each_vast().try_for_each(put)
+/// Lengths and sizes that are right only if they, or the bytes of all guards, are cut
+/// to some number of bits.
+fn every_cut(put: Put<'_>) -> Held {
+    let data = [0xC3; 24];
+    for bits in 8..64 {
+        put(guards(&data, 8 + (1 << bits), 6))?;
+        put(guards(&data, 1 << bits, 0))?;
+    }
+    for bits in 8..=32 {
+        put(guards(&data, 8, 6).with_zeros((0, 4 << bits)))?;
+    }
+    guards(&data, 8, 6).each_cut().try_for_each(put)
 }
 
 /// All small numbers, and those that become one when they are cut.

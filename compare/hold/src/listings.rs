@@ -2,11 +2,9 @@
 
 use reference::{Description, listing};
 
-use crate::call::{Call, Function};
+use crate::call::{CUTS, Call, Function};
 use crate::numbers::Numbers;
-use crate::segment::{
-    CUTS, FAR_CUTS, Intervals, SHAPES, Tags, any_good, blocks, each_bad, just_above, stretch,
-};
+use crate::segment::{Intervals, SHAPES, Tags, any_good, blocks, each_bad, just_above, stretch};
 use crate::trial::{Held, Put};
 
 /// The greatest length that a record may give.
@@ -43,11 +41,10 @@ pub fn large(put: Put<'_>) -> Held {
     let mut numbers = Numbers::new(16);
     for (p, e) in SHAPES {
         let desc = described(p, 8, e, 7, 3);
-        every_cut(&desc, &CUTS, &mut numbers, put)?;
+        every_cut(&desc, &mut numbers, put)?;
         every_cut_product(&desc, put)?;
         every_total(p, e, &mut numbers, put)?;
     }
-    every_cut(&described(1, 8, 0, 7, 3), &FAR_CUTS, &mut numbers, put)?;
     every_great_room(&mut numbers, put)
 }
 
@@ -202,25 +199,19 @@ fn every_two_faults(desc: &Description, numbers: &mut Numbers, put: Put<'_>) -> 
     Ok(())
 }
 
-/// Records whose length is right only if it is cut to some number of bits.
-fn every_cut(desc: &Description, cuts: &[u32], numbers: &mut Numbers, put: Put<'_>) -> Held {
+/// Records and rooms whose length is right only if it is cut to some number of bits;
+/// the record's length is the right one, or that of all the bytes.
+fn every_cut(desc: &Description, numbers: &mut Numbers, put: Put<'_>) -> Held {
     let segment = right(desc, numbers);
-    let right = HEAD + segment.len();
-    for bits in cuts {
-        let mut more = whole(desc, &segment);
-        more.resize(more.len() + (1 << bits), 0x77);
-        put(list_all(&more))?;
-        more[..4].copy_from_slice(&((right + (1 << bits)) as u32).to_be_bytes());
-        put(list_all(&more))?;
+    list_all(&whole(desc, &segment))
+        .each_cut()
+        .try_for_each(&mut *put)?;
+    for bits in CUTS.into_iter().filter(|&bits| bits < 32) {
+        let more = 1 << bits;
+        let input = record(HEAD + segment.len() + more, 1, desc, &segment);
+        put(list_all(&input).with_zeros((0, more)))?;
     }
     Ok(())
-}
-
-/// Record and room longer by more bytes than 32 bits can count.
-pub fn every_vast(put: Put<'_>) -> Held {
-    let desc = described(1, 8, 0, 7, 3);
-    let right = list_all(&whole(&desc, &right(&desc, &mut Numbers::new(17))));
-    right.each_vast().try_for_each(put)
 }
 
 /// Segments whose length is right only if N × S is cut to some number of bits.
@@ -295,8 +286,7 @@ fn every_great_room(numbers: &mut Numbers, put: Put<'_>) -> Held {
     let input = whole(&desc, &right(&desc, numbers));
     let needed = listing(&input).len();
     let powers = (8..=20).map(|bits| 1 << bits);
-    let cut = CUTS.map(|bits| needed + (1 << bits));
-    for near in powers.chain(cut).chain([needed]) {
+    for near in powers.chain([needed]) {
         for room in near - 1..=near + 1 {
             put(list(&input, room))?;
         }

@@ -136,12 +136,6 @@ pub fn each_bad(good: &Description) -> [Description; 9] {
     ]
 }
 
-/// Numbers of bits that a length may be cut to by mistake.
-pub const CUTS: [u32; 6] = [8, 10, 12, 15, 16, 17];
-
-/// Such numbers that make long slices: once for each slice.
-pub const FAR_CUTS: [u32; 3] = [20, 24, 27];
-
 /// The description with so many blocks that N × S is just above 2^bits, and the
 /// bytes above it: the segment's length for who cuts it to so many bits. Nothing
 /// if no count is so great.

@@ -5,8 +5,8 @@ use reference::Description;
 use crate::call::{Call, Function};
 use crate::numbers::Numbers;
 use crate::segment::{
-    CUTS, FAR_CUTS, Intervals, SHAPES, any_good, each_bad, just_above, one_bit_away,
-    one_number_away, segment_length, spoil, stretch,
+    Intervals, SHAPES, any_good, each_bad, just_above, one_bit_away, one_number_away,
+    segment_length, spoil, stretch,
 };
 use crate::trial::{Held, Put};
 
@@ -67,7 +67,7 @@ pub fn large(put: Put<'_>) -> Held {
     let mut numbers = Numbers::new(14);
     for (p, e) in SHAPES {
         let small = described(p, 8, e, 2);
-        every_cut(&small, &CUTS, &mut numbers, put)?;
+        every_cut(&small, put)?;
         every_cut_product(&small, &mut numbers, put)?;
     }
     every_count(&mut numbers, put)
@@ -208,34 +208,15 @@ fn every_two_faults(good: &Description, numbers: &mut Numbers, put: Put<'_>) -> 
 }
 
 /// Lengths that are right only if they are cut to some number of bits.
-fn every_cut(desc: &Description, cuts: &[u32], numbers: &mut Numbers, put: Put<'_>) -> Held {
-    let part = segment_length(desc);
-    for bits in cuts {
-        let all = numbers.bytes(3 * part + (1 << bits));
-        let more = |length: usize| &all[..length + (1 << bits)];
-        let right = |length: usize| &all[..length];
-        put(parity(desc, 2, more(2 * part), right(part)))?;
-        put(parity(desc, 2, right(2 * part), more(part)))?;
-        put(rebuild(desc, 2, 1, more(3 * part), right(part)))?;
-        put(rebuild(desc, 2, 1, right(3 * part), more(part)))?;
-        put(correct(desc, more(part), right(part), right(part)))?;
-        put(correct(desc, right(part), more(part), right(part)))?;
-        put(correct(desc, right(part), right(part), more(part)))?;
-    }
-    Ok(())
-}
-
-/// Each slice longer by more bytes than 32 bits can count.
-pub fn every_vast(put: Put<'_>) -> Held {
-    let desc = &described(2, 8, 1, 2);
+fn every_cut(desc: &Description, put: Put<'_>) -> Held {
     let part = vec![0xC3; segment_length(desc)];
     let two = part.repeat(2);
-    for call in [
+    for right in [
         parity(desc, 2, &two, &part),
         rebuild(desc, 1, 1, &two, &part),
         correct(desc, &part, &part, &part),
     ] {
-        call.each_vast().try_for_each(&mut *put)?;
+        right.each_cut().try_for_each(&mut *put)?;
     }
     Ok(())
 }
@@ -268,12 +249,12 @@ fn cut_parts(one: &Description, bits: u32, k: u64, parts: u64) -> Call {
     let n = (1 << bits) / (parts * stored) + 1;
     let desc = Description { n, ..*one };
     let cut = vec![0xC3; (parts * n * stored - (1 << bits)) as usize];
-    let out = vec![0xC3; segment_length(&desc)];
-    if parts == k {
-        parity(&desc, k, &cut, &out)
+    let call = if parts == k {
+        parity(&desc, k, &cut, &[])
     } else {
-        rebuild(&desc, k, 0, &cut, &out)
-    }
+        rebuild(&desc, k, 0, &cut, &[])
+    };
+    call.with_zeros((1, segment_length(&desc)))
 }
 
 /// Parts about as long as a power of two, with the fewest and the most members, and
@@ -311,7 +292,6 @@ fn every_lost(desc: &Description, k: u64, numbers: &mut Numbers, put: Put<'_>) -
 /// each; and lengths whose true sums are above 2^32.
 pub fn most(put: Put<'_>) -> Held {
     let numbers = &mut Numbers::new(12);
-    every_cut(&described(1, 8, 0, 2), &FAR_CUTS, numbers, put)?;
     every_lost(&described(1, 8, 0, 65_536), 16, numbers, put)?;
     let block = described(2, 4_096, 3, 1);
     let (longer, _) = just_above(&block, 24).expect("few blocks");
@@ -323,12 +303,11 @@ pub fn most(put: Put<'_>) -> Held {
     drop(parts);
     let (longest, _) = just_above(&block, 27).expect("few blocks");
     let part = segment_length(&longest);
-    let parts = numbers.bytes(2 * part);
-    let out = vec![0xC3; part];
-    put(parity(&longest, 1, &parts[part..], &out))?;
-    put(rebuild(&longest, 1, 0, &parts, &out))?;
-    put(correct(&longest, &parts[..part], &parts[part..], &out))?;
-    drop(parts);
+    let parts = numbers.bytes(3 * part);
+    let [first, second, third] = [0, 1, 2].map(|number| &parts[number * part..][..part]);
+    put(parity(&longest, 2, &parts[part..], first))?;
+    put(rebuild(&longest, 2, 1, &parts, second))?;
+    put(correct(&longest, first, second, third))?;
     put(cut_parts(&block, 32, 16, 16))?;
     put(cut_parts(&block, 32, 16, 17))
 }

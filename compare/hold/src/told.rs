@@ -2,7 +2,7 @@
 
 use reference::Description;
 
-use crate::call::{Call, Function, Left, VAST};
+use crate::call::{Call, Function, Left};
 use crate::pages::Pages;
 
 const OTHERS: &str = "not the function's numbers and slices";
@@ -18,13 +18,17 @@ pub struct Told {
 pub fn tell(call: &Call) -> Told {
     let mut lent = call.lent.clone();
     let mut slices: Vec<&mut [u8]> = lent.iter_mut().map(Vec::as_mut_slice).collect();
-    let mut pages = call.vast.map(|number| vast(&call.lent[number]));
-    if let Some((number, pages)) = call.vast.zip(pages.as_mut()) {
-        let length = slices[number].len() + VAST;
-        slices[number] = &mut pages.bytes_mut()[..length];
+    let mut longer = call.zeros.map(|(number, count)| {
+        let bytes = &call.lent[number];
+        let mut pages = Pages::new(bytes.len() + count);
+        pages.bytes_mut()[..bytes.len()].copy_from_slice(bytes);
+        (number, bytes.len() + count, pages)
+    });
+    if let Some((number, length, pages)) = &mut longer {
+        slices[*number] = &mut pages.bytes_mut()[..*length];
     }
     let (returned, places, answer) = call_reference(call.function, &call.numbers, &mut slices);
-    if let Some((number, pages)) = call.vast.zip(pages.as_ref()) {
+    if let Some((number, _, pages)) = longer {
         let length = lent[number].len();
         lent[number].copy_from_slice(&pages.bytes()[..length]);
     }
@@ -37,13 +41,6 @@ pub fn tell(call: &Call) -> Told {
         },
         answer,
     }
-}
-
-/// These bytes and the zeros behind them.
-fn vast(bytes: &[u8]) -> Pages {
-    let mut pages = Pages::new(bytes.len() + VAST);
-    pages.bytes_mut()[..bytes.len()].copy_from_slice(bytes);
-    pages
 }
 
 /// The number handed back, the numbers in the places, the answer.

@@ -44,19 +44,15 @@ impl<'a, L: Library> Trial<'a, L> {
         let put: Put = &mut |call| self.put(call);
         guards::each(put)?;
         guards::large(put)?;
-        guards::every_vast(put)?;
         formats::each(put)?;
         formats::large(put)?;
-        formats::every_vast(put)?;
         stripes::each(put)?;
         stripes::pairs(put)?;
         stripes::large(put)?;
         stripes::most(put)?;
-        stripes::every_vast(put)?;
         listings::each(put)?;
         listings::pairs(put)?;
         listings::large(put)?;
-        listings::every_vast(put)?;
         executes::each(put)?;
         executes::order::each(put)?;
         executes::large::each(put)

@@ -7,13 +7,11 @@ use crate::command::{Command, OPERATIONS, Operation, SIZES};
 use crate::executes::each::middle;
 use crate::numbers::Numbers;
 use crate::scene::{Scene, buffer_length};
-use crate::segment::{CUTS, FAR_CUTS, Intervals, SHAPES, just_above, segment_length};
+use crate::segment::{Intervals, SHAPES, just_above, segment_length};
 use crate::trial::{Held, Put};
 
 pub fn each(put: Put<'_>) -> Held {
     every_cut(put)?;
-    every_far_cut(put)?;
-    every_vast(put)?;
     every_length(put)?;
     every_count(put)?;
     every_offset(put)?;
@@ -89,93 +87,49 @@ pub fn every_cut(put: Put<'_>) -> Held {
             }
             let desc = described(p, e, 8, 4);
             let right = Scene::right(desc, at(&desc, operation, 1, 2), numbers);
-            for bits in CUTS {
-                every_longer(&right, 1 << bits, put)?;
-            }
+            right.into_call().each_cut().try_for_each(&mut *put)?;
         }
         for size in SIZES {
             let p = if size == 32 { 2 } else { 1 };
             let (desc, command) = middle(p, 0, operation, size);
-            let scene = Scene::right(desc, command, numbers);
-            for bits in CUTS {
-                let mut bytes = command.bytes();
-                bytes.resize(size + (1 << bits), 0);
-                put(scene.call_by(&bytes))?;
-            }
+            let right = Scene::right(desc, command, numbers);
+            right.into_call().each_cut().try_for_each(&mut *put)?;
         }
     }
     Ok(())
 }
 
-/// Once for each slice, lengths that are right only if they are cut to a great
-/// number of bits.
-pub fn every_far_cut(put: Put<'_>) -> Held {
-    let numbers = &mut Numbers::new(21);
-    let desc = described(1, 0, 8, 4);
-    for operation in OPERATIONS {
-        let right = Scene::right(desc, at(&desc, operation, 1, 2), numbers);
-        for bits in FAR_CUTS {
-            every_longer(&right, 1 << bits, put)?;
-        }
-        let mut bytes = right.command.bytes();
-        bytes.resize(bytes.len() + (1 << 24), 0);
-        put(right.call_by(&bytes))?;
-    }
-    for (bits, code) in [(24, 0), (27, 0), (28, 1)] {
-        for operation in [Operation::Read, Operation::Write] {
-            put(cut_transfer(
-                &described(2, 3, 4_096, 1),
-                operation,
-                code,
-                bits,
-            ))?;
-        }
-    }
-    Ok(())
-}
-
-/// Each slice longer by more bytes than 32 bits can count.
-pub fn every_vast(put: Put<'_>) -> Held {
-    let numbers = &mut Numbers::new(26);
-    let desc = described(1, 0, 8, 4);
-    for operation in OPERATIONS {
-        let right = Scene::right(desc, at(&desc, operation, 1, 2), numbers);
-        right.into_call().each_vast().try_for_each(&mut *put)?;
-    }
-    Ok(())
-}
-
-/// Segment and buffer longer by so many bytes.
-fn every_longer(right: &Scene, more: usize, put: Put<'_>) -> Held {
-    let mut scene = right.clone();
-    scene.segment.resize(right.segment.len() + more, 0x77);
-    put(scene.into_call())?;
-    let mut scene = right.clone();
-    scene.buffer.resize(right.buffer.len() + more, 0x77);
-    put(scene.into_call())
-}
-
-/// Segments, and buffers where their segment is small, as short as N × S and the
-/// transfer's bytes are when they are cut.
+/// Segments and buffers as short as N × S and the transfer's bytes are when they are
+/// cut.
 fn every_cut_product(one: &Description, operation: Operation, put: Put<'_>) -> Held {
     for bits in 8..=28 {
         if let Some((desc, cut)) = just_above(one, bits) {
-            put(unjudged(desc, at(&desc, operation, 0, 1), cut, 0))?;
+            let segment = vec![0; cut];
+            let buffer = Vec::new();
+            let command = at(&desc, operation, 0, 1);
+            put(Scene {
+                desc,
+                command,
+                segment,
+                buffer,
+            }
+            .into_call())?;
         }
     }
     if operation == Operation::Verify {
         return Ok(());
     }
-    for bits in 8..=20 {
+    for bits in 8..=28 {
         for code in [0, 1] {
-            put(cut_transfer(one, operation, code, bits))?;
+            cut_transfer(one, operation, code, bits).map_or(Ok(()), &mut *put)?;
         }
     }
     Ok(())
 }
 
-/// A transfer of just above 2^bits bytes with a buffer of the bytes above.
-fn cut_transfer(one: &Description, operation: Operation, code: u8, bits: u32) -> Call {
+/// A transfer of just above 2^bits bytes with a buffer of the bytes above, if there
+/// can be so many. Its segment is of zeros.
+fn cut_transfer(one: &Description, operation: Operation, code: u8, bits: u32) -> Option<Call> {
     let with_code = |command: Command| Command { code, ..command };
     let each = buffer_length(one, &with_code(at(one, operation, 0, 1)), 1);
     let n = (1 << bits) / each + 1;
@@ -183,20 +137,14 @@ fn cut_transfer(one: &Description, operation: Operation, code: u8, bits: u32) ->
         n: n as u64,
         ..*one
     };
-    let command = with_code(at(&desc, operation, 0, desc.n));
-    let cut = n * each - (1 << bits);
-    unjudged(desc, command, segment_length(&desc), cut)
-}
-
-/// A scene of zeros.
-fn unjudged(desc: Description, command: Command, segment: usize, buffer: usize) -> Call {
-    Scene {
+    let scene = Scene {
         desc,
-        command,
-        segment: vec![0; segment],
-        buffer: vec![0; buffer],
-    }
-    .into_call()
+        command: with_code(at(&desc, operation, 0, desc.n)),
+        segment: Vec::new(),
+        buffer: vec![0; n * each - (1 << bits)],
+    };
+    let segment = (0, segment_length(&desc));
+    (n <= 65_536).then(|| scene.into_call().with_zeros(segment))
 }
 
 /// Each size of command with great lengths, from the first block and to the last.

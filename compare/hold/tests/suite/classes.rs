@@ -422,7 +422,7 @@ fn taken_when_cut(call: &Passing<'_>, slice: usize, bits: u32) -> u64 {
 
 #[test]
 fn a_length_right_when_it_is_cut() {
-    let slices: [(Part, Function, usize); 12] = [
+    let slices: [(Part, Function, usize); 14] = [
         (executes::large::every_cut, Function::Execute, 0),
         (executes::large::every_cut, Function::Execute, 1),
         (executes::large::every_cut, Function::Execute, 2),
@@ -435,28 +435,13 @@ fn a_length_right_when_it_is_cut() {
         (stripes::large, Function::Correct, 1),
         (stripes::large, Function::Correct, 2),
         (listings::large, Function::List, 0),
+        (guards::large, Function::Guards, 0),
+        (guards::large, Function::Guards, 1),
     ];
     for (part, function, slice) in slices {
-        for bits in [8, 16] {
+        for bits in [8, 16, 24, 27, 32] {
             found_by(part, function, |call| taken_when_cut(call, slice, bits));
         }
-    }
-    for (_, function, slice) in slices {
-        let part = match function {
-            Function::Execute => executes::large::every_vast,
-            Function::Fill => formats::every_vast,
-            Function::List => listings::every_vast,
-            _ => stripes::every_vast,
-        };
-        found_by(part, function, |call| taken_when_cut(call, slice, 32));
-    }
-    for slice in 0..2 {
-        found_by(guards::large, Function::Guards, |call| {
-            taken_when_cut(call, slice, 16)
-        });
-        found_by(guards::every_vast, Function::Guards, |call| {
-            taken_when_cut(call, slice, 32)
-        });
     }
 }
 
