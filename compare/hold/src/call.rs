@@ -1,5 +1,7 @@
 //! A call of an exported function, and what it leaves.
 
+use std::fmt;
+
 use reference::Description;
 
 #[derive(Clone, Copy, Debug, PartialEq, Eq)]
@@ -80,7 +82,14 @@ pub struct Call {
     pub function: Function,
     pub numbers: Vec<u64>,
     pub lent: Vec<Vec<u8>>,
+    /// A slice that is lent with so many zeros behind its bytes, if there is one. No
+    /// memory holds them until they are touched, and none should be: the length says
+    /// enough.
+    pub zeros: Option<(usize, usize)>,
 }
+
+/// Numbers of bits that a length may be cut to by mistake.
+pub const CUTS: [u32; 10] = [8, 10, 12, 15, 16, 17, 20, 24, 27, 32];
 
 impl Call {
     pub fn new<const N: usize>(function: Function, numbers: &[u64], lent: [&[u8]; N]) -> Self {
@@ -88,6 +97,30 @@ impl Call {
             function,
             numbers: numbers.to_vec(),
             lent: lent.map(<[u8]>::to_vec).into(),
+            zeros: None,
+        }
+    }
+
+    /// The call with each slice in turn too long: it has the right length only for
+    /// who cuts that to some number of bits.
+    pub fn each_cut(&self) -> impl Iterator<Item = Call> {
+        let slices = 0..self.lent.len();
+        let longer = slices.flat_map(|number| CUTS.map(|bits| (number, 1 << bits)));
+        longer.map(|zeros| self.clone().with_zeros(zeros))
+    }
+
+    pub fn with_zeros(self, zeros: (usize, usize)) -> Self {
+        Call {
+            zeros: Some(zeros),
+            ..self
+        }
+    }
+
+    /// How many zeros are lent behind the bytes of a slice.
+    pub fn behind(&self, number: usize) -> usize {
+        match self.zeros {
+            Some((slice, count)) if slice == number => count,
+            _ => 0,
         }
     }
 
@@ -100,6 +133,20 @@ impl Call {
     ) -> Self {
         let first = [desc.p, desc.b, desc.e, desc.w, desc.n, desc.ato];
         Call::new(function, &[&first, numbers].concat(), lent)
+    }
+}
+
+impl fmt::Display for Call {
+    fn fmt(&self, f: &mut fmt::Formatter<'_>) -> fmt::Result {
+        writeln!(f, "function {}", self.function.name())?;
+        write!(f, "numbers {:X?}", self.numbers)?;
+        for (number, bytes) in self.lent.iter().enumerate() {
+            write!(f, "\nlent {number}: {}", Hex(bytes))?;
+            if self.behind(number) > 0 {
+                write!(f, " and {} zeros", self.behind(number))?;
+            }
+        }
+        Ok(())
     }
 }
 
@@ -134,4 +181,21 @@ pub trait Library {
         lent: &[Lent],
         places: &[*mut u64],
     ) -> u64;
+}
+
+/// Bytes in hexadecimal, cut where they grow long.
+pub struct Hex<'a>(pub &'a [u8]);
+
+impl fmt::Display for Hex<'_> {
+    fn fmt(&self, f: &mut fmt::Formatter<'_>) -> fmt::Result {
+        const SHOWN: usize = 512;
+        write!(f, "{} bytes ", self.0.len())?;
+        for byte in self.0.iter().take(SHOWN) {
+            write!(f, "{byte:02X}")?;
+        }
+        if self.0.len() > SHOWN {
+            f.write_str("..")?;
+        }
+        Ok(())
+    }
 }

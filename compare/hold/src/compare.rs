@@ -2,73 +2,84 @@
 
 use std::fmt;
 
-use crate::call::{Call, Left, Library};
-use crate::fence::{Empty, Fenced, Places};
+use crate::call::{Call, Hex, Left, Library};
+use crate::fence::{Places, Room, Rooms, Way};
 use crate::told::{Told, tell};
+use crate::watch;
 
 /// A call on which library and reference part.
 #[derive(Debug)]
 pub struct Difference {
     pub call: Call,
-    pub empty: Empty,
+    pub way: Way,
     pub wanted: Left,
     pub got: Left,
 }
 
-/// Puts a call to both; the answer number if it gives one. Where a slice is empty
-/// the library is called twice, also with a null pointer for it.
+/// The most bytes that are also lent between two fences.
+const LONG: usize = 1 << 20;
+
+/// Puts a call to both, to the library in each way that slices are lent; the answer
+/// number if it gives one.
 pub fn compare(
     library: &impl Library,
     call: Call,
+    rooms: &mut Rooms,
     skew: usize,
 ) -> Result<Option<u64>, Box<Difference>> {
     let Told { left, answer } = tell(&call);
-    let nulls = call.lent.iter().any(Vec::is_empty);
-    let ways = [Empty::Place, Empty::Null];
-    for &empty in &ways[..1 + usize::from(nulls)] {
-        let got = run(library, &call, empty, skew);
-        if got != left {
+    // What a word's boundary may change shows in short calls.
+    let long = call.lent.iter().map(Vec::len).sum::<usize>() > LONG;
+    let ways = [Way::Fenced(skew), Way::BehindPage, Way::BeforePage];
+    for &way in &ways[usize::from(long)..] {
+        let rooms = rooms.put(&call, way);
+        let run = || run(library, &call, &left, rooms);
+        if let Err(got) = watch::over(&call, way, run) {
             return Err(Box::new(Difference {
                 call,
-                empty,
+                way,
                 wanted: left,
                 got,
             }));
         }
     }
+    rooms.clear();
     Ok(answer)
 }
 
-/// Calls the library with copies between fences.
-fn run(library: &impl Library, call: &Call, empty: Empty, skew: usize) -> Left {
-    let fenced = |bytes: &Vec<u8>| Fenced::new(bytes, skew);
-    let mut rooms: Vec<Fenced> = call.lent.iter().map(fenced).collect();
+/// Calls the library with the copies in the rooms; an error is what it leaves
+/// where that is not what is wanted.
+fn run(library: &impl Library, call: &Call, wanted: &Left, rooms: &mut [Room]) -> Result<(), Left> {
     let mut places = Places::new(call.function.places());
-    let lent: Vec<_> = rooms.iter_mut().map(|room| room.lend(empty)).collect();
+    let lent: Vec<_> = rooms.iter_mut().map(Room::lend).collect();
     let row = places.lend();
     // SAFETY: each slice and each place is a part of its own of memory that only
     // this function knows and that stays where it is until after the call.
     let returned = unsafe { library.call(call.function, &call.numbers, &lent, &row) };
-    let standing = rooms.iter().map(Fenced::stands).chain([places.stand()]);
-    Left {
-        returned,
-        places: places.numbers(),
-        trespassed: standing
-            .enumerate()
-            .filter_map(|(number, stands)| (!stands).then_some(number))
-            .collect(),
-        lent: rooms.iter().map(|room| room.bytes().to_vec()).collect(),
+    let standing = rooms.iter().map(Room::stands).chain([places.stand()]);
+    let trespassed: Vec<usize> = standing
+        .enumerate()
+        .filter_map(|(number, stands)| (!stands).then_some(number))
+        .collect();
+    let places = places.numbers();
+    let bytes = rooms.iter().map(Room::bytes);
+    if (returned, &places, &trespassed) == (wanted.returned, &wanted.places, &wanted.trespassed)
+        && bytes.clone().eq(&wanted.lent)
+    {
+        return Ok(());
     }
+    Err(Left {
+        returned,
+        places,
+        trespassed,
+        lent: bytes.map(<[u8]>::to_vec).collect(),
+    })
 }
 
 impl fmt::Display for Difference {
     fn fmt(&self, f: &mut fmt::Formatter<'_>) -> fmt::Result {
-        writeln!(f, "function {}", self.call.function.name())?;
-        writeln!(f, "empty slices lent by {:?}", self.empty)?;
-        writeln!(f, "numbers {:X?}", self.call.numbers)?;
-        for (number, bytes) in self.call.lent.iter().enumerate() {
-            writeln!(f, "lent {number}: {}", Hex(bytes))?;
-        }
+        writeln!(f, "{}", self.call)?;
+        writeln!(f, "lent {}", self.way)?;
         writeln!(f, "reference:")?;
         self.wanted.show(&self.call, f)?;
         writeln!(f, "library:")?;
@@ -97,23 +108,6 @@ impl Left {
         }
         for number in &self.trespassed {
             writeln!(f, "  wrote outside lent {number}")?;
-        }
-        Ok(())
-    }
-}
-
-/// Bytes in hexadecimal, cut where they grow long.
-struct Hex<'a>(&'a [u8]);
-
-impl fmt::Display for Hex<'_> {
-    fn fmt(&self, f: &mut fmt::Formatter<'_>) -> fmt::Result {
-        const SHOWN: usize = 512;
-        write!(f, "{} bytes ", self.0.len())?;
-        for byte in self.0.iter().take(SHOWN) {
-            write!(f, "{byte:02X}")?;
-        }
-        if self.0.len() > SHOWN {
-            f.write_str("..")?;
         }
         Ok(())
     }

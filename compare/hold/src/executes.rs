@@ -2,6 +2,8 @@
 
 mod any;
 mod each;
+pub mod large;
+pub mod order;
 
 pub use any::any;
 pub use each::each;

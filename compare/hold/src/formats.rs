@@ -4,12 +4,21 @@ use reference::Description;
 
 use crate::call::{Call, Function};
 use crate::numbers::Numbers;
-use crate::segment::{SHAPES, any_good, one_number_away, spoil, stretch};
+use crate::segment::{
+    SHAPES, any_good, each_bad, just_above, one_bit_away, one_number_away, segment_length, spoil,
+    stretch,
+};
 use crate::trial::{Held, Put};
 
 pub fn each(put: Put<'_>) -> Held {
     choices(put)?;
     fills(put)
+}
+
+/// Great blocks in great numbers, and lengths right only when they are cut.
+pub fn large(put: Put<'_>) -> Held {
+    every_cut(put)?;
+    large_fills(put)
 }
 
 fn choice(numbers: [u64; 4]) -> Call {
@@ -54,15 +63,8 @@ fn fills(put: Put<'_>) -> Held {
             (4_096, 2),
             (8, 65_536),
         ] {
-            let desc = Description {
-                p,
-                b,
-                e,
-                w: 7,
-                n,
-                ato: 0,
-            };
-            let length = desc.segment_length().expect("a good description") as usize;
+            let desc = described(p, b, e, n);
+            let length = segment_length(&desc);
             let segment = numbers.bytes(2 * length);
             let others = [length, length - 1, length + 1, length - 8, length + 8];
             let far = [0, 1, 2 * length, b as usize * n as usize];
@@ -70,11 +72,68 @@ fn fills(put: Put<'_>) -> Held {
                 put(fill(&desc, &segment[..other]))?;
             }
             if n < 65_536 {
-                for desc in one_number_away(&desc) {
+                let away = one_number_away(&desc).into_iter();
+                for desc in away.chain(one_bit_away(&desc)) {
                     put(fill(&desc, &segment[..length]))?;
+                }
+                for desc in each_bad(&desc) {
+                    for other in [0, length - 1, length + 1] {
+                        put(fill(&desc, &segment[..other]))?;
+                    }
                 }
             }
         }
+    }
+    Ok(())
+}
+
+fn described(p: u64, b: u64, e: u64, n: u64) -> Description {
+    Description {
+        p,
+        b,
+        e,
+        w: 7,
+        n,
+        ato: 0,
+    }
+}
+
+/// Lengths that are right only if they, or N × S, are cut to some number of bits.
+fn every_cut(put: Put<'_>) -> Held {
+    for (p, e) in SHAPES {
+        for b in [8, 4_096] {
+            let desc = described(p, b, e, 2);
+            let right = fill(&desc, &vec![0xC3; segment_length(&desc)]);
+            right.each_cut().try_for_each(&mut *put)?;
+            for bits in 8..=28 {
+                if let Some((desc, cut)) = just_above(&desc, bits) {
+                    put(fill(&desc, &vec![0xC3; cut]))?;
+                }
+            }
+        }
+    }
+    Ok(())
+}
+
+/// Great blocks in numbers about the powers of two, and the most bytes that there
+/// may be.
+fn large_fills(put: Put<'_>) -> Held {
+    for (p, e) in SHAPES {
+        for (b, n) in [
+            (16, 32_769),
+            (24, 65_535),
+            (520, 1_025),
+            (4_088, 255),
+            (4_096, 256),
+            (4_096, 257),
+        ] {
+            let desc = described(p, b, e, n);
+            put(fill(&desc, &vec![0xC3; segment_length(&desc)]))?;
+        }
+    }
+    for (p, e, n) in [(1, 0, 4_097), (3, 2, 32_769), (2, 3, 65_536)] {
+        let desc = described(p, 4_096, e, n);
+        put(fill(&desc, &vec![0xC3; segment_length(&desc)]))?;
     }
     Ok(())
 }
@@ -88,8 +147,7 @@ pub fn any(numbers: &mut Numbers) -> Call {
         }));
     }
     let mut desc = any_good(numbers, 20_000);
-    let length = desc.segment_length().expect("a good description") as usize;
-    let mut segment = numbers.data(length);
+    let mut segment = numbers.data(segment_length(&desc));
     if numbers.once_in(4) {
         spoil(&mut desc, numbers);
     }

@@ -11,6 +11,13 @@ pub fn each(put: Put<'_>) -> Held {
     senses(put)
 }
 
+/// Great lengths, sizes and counts, and lengths right only when they are cut.
+pub fn large(put: Put<'_>) -> Held {
+    every_cut(put)?;
+    long_runs(put)?;
+    long(put)
+}
+
 fn guard(data: &[u8]) -> [Call; 2] {
     [Function::Guard, Function::GuardByDivision].map(|function| Call::new(function, &[], [data]))
 }
@@ -79,6 +86,53 @@ fn runs(put: Put<'_>) -> Held {
         }
     }
     Ok(())
+}
+
+/// Lengths about the powers of two, to some MiB.
+fn long(put: Put<'_>) -> Held {
+    let mut numbers = Numbers::new(8);
+    for bits in 10..=22 {
+        for length in [(1 << bits) - 1, 1 << bits, (1 << bits) + 1] {
+            let data = numbers.bytes(length);
+            guard(&data).into_iter().try_for_each(&mut *put)?;
+        }
+    }
+    let [table, division] = guard(&numbers.bytes((1 << 24) + 3));
+    put(table)?;
+    put(division)?;
+    let [table, _] = guard(&numbers.bytes((1 << 27) + 5));
+    put(table)
+}
+
+/// Great sizes and great counts.
+fn long_runs(put: Put<'_>) -> Held {
+    let mut numbers = Numbers::new(9);
+    let about = |bits: u32| [(1 << bits) - 1, 1 << bits, (1 << bits) + 1];
+    for bits in [8, 10, 12, 15, 16, 17, 20] {
+        for great in about(bits) {
+            for (size, count) in [(great, 1), (great, 3), (1, great), (3, great)] {
+                let data = numbers.bytes(size * count);
+                put(guards(&data, size as u64, 2 * count))?;
+                // The last interval's guard has no place.
+                put(guards(&data, size as u64, 2 * count - 2))?;
+            }
+        }
+    }
+    Ok(())
+}
+
+/// Lengths and sizes that are right only if they, or the bytes of all guards, are cut
+/// to some number of bits.
+fn every_cut(put: Put<'_>) -> Held {
+    let data = [0xC3; 24];
+    for bits in 8..64 {
+        put(guards(&data, 8 + (1 << bits), 6))?;
+        put(guards(&data, 1 << bits, 0))?;
+    }
+    for bits in 8..=32 {
+        put(guards(&data, 8, 6).with_zeros((0, 4 << bits)))?;
+    }
+    guards(&data, 8, 6).each_cut().try_for_each(put)
 }
 
 /// All small numbers, and those that become one when they are cut.

@@ -2,9 +2,9 @@
 
 use reference::{Description, listing};
 
-use crate::call::{Call, Function};
+use crate::call::{CUTS, Call, Function};
 use crate::numbers::Numbers;
-use crate::segment::{Intervals, SHAPES, Tags, any_good, blocks, stretch};
+use crate::segment::{Intervals, SHAPES, Tags, any_good, blocks, each_bad, just_above, stretch};
 use crate::trial::{Held, Put};
 
 /// The greatest length that a record may give.
@@ -25,6 +25,27 @@ pub fn each(put: Put<'_>) -> Held {
     every_length(&mut numbers, put)?;
     every_address(&mut numbers, put)?;
     longest(&mut numbers, put)
+}
+
+/// Two things wrong at once.
+pub fn pairs(put: Put<'_>) -> Held {
+    let mut numbers = Numbers::new(15);
+    for (p, e) in SHAPES {
+        every_two_faults(&described(p, 8, e, 7, 3), &mut numbers, put)?;
+    }
+    Ok(())
+}
+
+/// Great totals and rooms, and lengths right only when they are cut.
+pub fn large(put: Put<'_>) -> Held {
+    let mut numbers = Numbers::new(16);
+    for (p, e) in SHAPES {
+        let desc = described(p, 8, e, 7, 3);
+        every_cut(&desc, &mut numbers, put)?;
+        every_cut_product(&desc, put)?;
+        every_total(p, e, &mut numbers, put)?;
+    }
+    every_great_room(&mut numbers, put)
 }
 
 fn described(p: u64, b: u64, e: u64, w: u64, n: u64) -> Description {
@@ -123,6 +144,152 @@ fn every_head(desc: &Description, numbers: &mut Numbers, put: Put<'_>) -> Held {
     }
     for n in [0, 1, 2, 4, 0xFF, 0x100, 0x103, 65_535] {
         put(list_all(&whole(&Description { n, ..*desc }, &segment)))?;
+    }
+    Ok(())
+}
+
+/// Each two things wrong with a record at once: its length, the bytes that follow,
+/// its version, its description, its segment.
+fn every_two_faults(desc: &Description, numbers: &mut Numbers, put: Put<'_>) -> Held {
+    let right = right(desc, numbers);
+    // The last bad description is bad in ATO, which a record has not: a good one.
+    for desc in each_bad(desc) {
+        for segment in [
+            right.len(),
+            right.len() - 1,
+            right.len() + 1,
+            0,
+            LIMIT - HEAD + 1,
+        ] {
+            let mut segment_bytes = right.clone();
+            segment_bytes.resize(segment, 0x77);
+            let length = HEAD + segment;
+            for version in [1, 0, 2, 0xFF] {
+                for given in [
+                    length,
+                    length - 1,
+                    length + 1,
+                    0,
+                    14,
+                    LIMIT + 1,
+                    length + (1 << 16),
+                    length + (1 << 24),
+                    u32::MAX as usize,
+                ] {
+                    put(list_all(&record(given, version, &desc, &segment_bytes)))?;
+                }
+            }
+        }
+        // Cut within the head, with the length that is left and with another.
+        let whole = whole(&desc, &right);
+        for cut in 0..4 + HEAD {
+            for given in [cut.saturating_sub(4), HEAD, LIMIT + 1] {
+                let mut input = whole[..cut].to_vec();
+                let bytes = (given as u32).to_be_bytes();
+                let front = cut.min(4);
+                input[..front].copy_from_slice(&bytes[..front]);
+                put(list_all(&input))?;
+                if cut > 4 {
+                    input[4] = 2;
+                    put(list_all(&input))?;
+                }
+            }
+        }
+    }
+    Ok(())
+}
+
+/// Records and rooms whose length is right only if it is cut to some number of bits;
+/// the record's length is the right one, or that of all the bytes.
+fn every_cut(desc: &Description, numbers: &mut Numbers, put: Put<'_>) -> Held {
+    let segment = right(desc, numbers);
+    list_all(&whole(desc, &segment))
+        .each_cut()
+        .try_for_each(&mut *put)?;
+    for bits in CUTS.into_iter().filter(|&bits| bits < 32) {
+        let more = 1 << bits;
+        let input = record(HEAD + segment.len() + more, 1, desc, &segment);
+        put(list_all(&input).with_zeros((0, more)))?;
+    }
+    Ok(())
+}
+
+/// Segments whose length is right only if N × S is cut to some number of bits.
+fn every_cut_product(desc: &Description, put: Put<'_>) -> Held {
+    for b in [8, 4_096] {
+        for bits in 8..=28 {
+            let above = just_above(&Description { b, ..*desc }, bits);
+            // A record's N has two bytes.
+            if let Some((desc, cut)) = above.filter(|(desc, _)| desc.n < 65_536) {
+                put(list_all(&whole(&desc, &vec![0; cut])))?;
+            }
+        }
+    }
+    Ok(())
+}
+
+/// Numbers of lines that have one digit more than others, or one bit.
+const TOTALS: [usize; 26] = [
+    0, 1, 9, 10, 11, 31, 32, 33, 63, 64, 65, 99, 100, 101, 127, 128, 129, 255, 256, 257, 999,
+    1_000, 1_023, 1_024, 1_025, 4_096,
+];
+
+/// As many lines in each state as there are totals, from the first on and to the
+/// last, among a few others or, for the greatest, in the longest record.
+fn every_total(p: u64, e: u64, numbers: &mut Numbers, put: Put<'_>) -> Held {
+    let sizes = Intervals::of(&described(p, 8, e, 0, 1));
+    let most = (LIMIT - HEAD) / sizes.stored();
+    for total in TOTALS.into_iter().chain([most * sizes.each]) {
+        let count = (total / sizes.each + 2).min(most);
+        let desc = described(p, 8, e, 9, count as u64);
+        let right = right(&desc, numbers);
+        put(list_all(&whole(&desc, &right)))?;
+        if p == 0 {
+            continue;
+        }
+        let rest = (count * sizes.each).saturating_sub(total);
+        for spoiled in [Spoiled::Guard, Spoiled::Reference, Spoiled::Escape] {
+            for first in [0, rest] {
+                let mut segment = right.clone();
+                let intervals = segment.chunks_exact_mut(sizes.step);
+                for interval in intervals.skip(first).take(total) {
+                    spoiled.put(&mut interval[sizes.data..]);
+                }
+                put(list_all(&whole(&desc, &segment)))?;
+            }
+        }
+    }
+    Ok(())
+}
+
+/// What may be the matter with an interval's fields.
+#[derive(Clone, Copy)]
+enum Spoiled {
+    Guard,
+    Reference,
+    Escape,
+}
+
+impl Spoiled {
+    fn put(self, fields: &mut [u8]) {
+        match self {
+            Spoiled::Guard => fields[1] ^= 1,
+            Spoiled::Reference => fields[7] ^= 1,
+            Spoiled::Escape => fields[2..].fill(0xFF),
+        }
+    }
+}
+
+/// Rooms about the powers of two, and about the end, of the longest listing.
+fn every_great_room(numbers: &mut Numbers, put: Put<'_>) -> Held {
+    let desc = described(2, 8, 3, u64::MAX >> 2, 909);
+    let input = whole(&desc, &right(&desc, numbers));
+    let needed = listing(&input).len();
+    let powers = (8..=20).map(|bits| 1 << bits);
+    for near in powers.chain([needed]) {
+        for room in near - 1..=near + 1 {
+            put(list(&input, room))?;
+        }
     }
     Ok(())
 }

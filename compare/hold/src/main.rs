@@ -1,6 +1,7 @@
 //! Holds the archive against the reference on very many calls.
 //!
-//! Exit status 1 if they part or an answer was not reached; 2 for arguments it
+//! Exit status 1 if they part, an answer was not reached, or memory was touched that
+//! was not lent; 2 for arguments it
 //! does not know; 3 if its output cannot be written.
 
 mod linked;
@@ -11,6 +12,7 @@ use std::process::ExitCode;
 
 use hold::options::{Options, USAGE};
 use hold::trial::{Held, Trial};
+use hold::watch;
 use linked::Archive;
 
 fn main() -> ExitCode {
@@ -37,6 +39,7 @@ fn main() -> ExitCode {
 /// Runs the trial and prints what came of it; whether all agree and each answer
 /// was reached.
 fn hold(options: &Options, out: &mut impl Write) -> io::Result<bool> {
+    watch::install(options.seed);
     let mut trial = Trial::new(&Archive);
     if let Err(difference) = run(&mut trial, options) {
         let (seed, number) = (options.seed, trial.tally.inputs());

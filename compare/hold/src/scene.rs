@@ -19,11 +19,7 @@ impl Scene {
     /// A scene in which every interval is as the command expects it and every
     /// length is right. The description must be good.
     pub fn right(desc: Description, command: Command, numbers: &mut Numbers) -> Self {
-        let known = if desc.p == 1 {
-            command.address as u32
-        } else {
-            command.first
-        };
+        let known = known(&desc, &command);
         let offset = command.address.wrapping_sub(desc.w) << desc.e;
         // What the mask leaves out is not compared.
         let application = command.application ^ (numbers.number() as u16 & !command.mask);
@@ -34,17 +30,26 @@ impl Scene {
             tags(known.wrapping_sub(offset as u32)),
             numbers,
         );
-        let count = u64::from(command.length).min(desc.n);
-        let buffer = if command.judges_buffer() {
-            blocks(&desc, count, tags(known), numbers)
-        } else {
-            numbers.data(buffer_length(&desc, &command, count))
-        };
+        let buffer = incoming(&desc, &command, tags(known), numbers);
         Scene {
             desc,
             command,
             segment,
             buffer,
+        }
+    }
+
+    /// Another command on the same blocks: they must be as it expects them, in their
+    /// whole application tags too.
+    pub fn again(&self, command: Command, numbers: &mut Numbers) -> Self {
+        let tags = Tags {
+            application: command.application,
+            first: known(&self.desc, &command),
+        };
+        Scene {
+            command,
+            buffer: incoming(&self.desc, &command, tags, numbers),
+            ..self.clone()
         }
     }
 
@@ -56,6 +61,13 @@ impl Scene {
     pub fn call_by(&self, command: &[u8]) -> Call {
         let lent = [&self.segment[..], command, &self.buffer[..]];
         Call::described(Function::Execute, &self.desc, &[], lent)
+    }
+
+    /// The call, without a copy of the bytes.
+    pub fn into_call(self) -> Call {
+        let mut call = Call::described(Function::Execute, &self.desc, &[], []);
+        call.lent = vec![self.segment, self.command.bytes(), self.buffer];
+        call
     }
 
     /// The bytes whose intervals are judged: those that come in with their fields,
@@ -77,6 +89,25 @@ impl Scene {
             (self.command.address - self.desc.w) as usize * sizes.stored()
         };
         start + place * sizes.step
+    }
+}
+
+/// The first reference tag that is expected, or that may as well stand there.
+fn known(desc: &Description, command: &Command) -> u32 {
+    if desc.p == 1 {
+        command.address as u32
+    } else {
+        command.first
+    }
+}
+
+/// The buffer's bytes, right in every field where there are any.
+fn incoming(desc: &Description, command: &Command, tags: Tags, numbers: &mut Numbers) -> Vec<u8> {
+    let count = u64::from(command.length).min(desc.n);
+    if command.judges_buffer() {
+        blocks(desc, count, tags, numbers)
+    } else {
+        numbers.data(buffer_length(desc, command, count))
     }
 }
 

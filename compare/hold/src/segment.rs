@@ -55,6 +55,11 @@ impl Intervals {
     }
 }
 
+/// N × S of a description within the limits.
+pub fn segment_length(desc: &Description) -> usize {
+    desc.n as usize * Intervals::of(desc).stored()
+}
+
 /// Blocks with true guards and these tags; type 0 has data alone.
 pub fn blocks(desc: &Description, count: u64, tags: Tags, numbers: &mut Numbers) -> Vec<u8> {
     let sizes = Intervals::of(desc);
@@ -91,6 +96,57 @@ pub fn one_number_away(good: &Description) -> Vec<Description> {
         }
     }
     out
+}
+
+/// Each bit of each number of a description turned over.
+pub fn one_bit_away(good: &Description) -> Vec<Description> {
+    let turned = |bit: u32, field: fn(&mut Description) -> &mut u64| {
+        let mut desc = *good;
+        *field(&mut desc) ^= 1 << bit;
+        desc
+    };
+    (0..64)
+        .flat_map(|bit| FIELDS.map(|field| turned(bit, field)))
+        .collect()
+}
+
+/// The numbers of a description.
+const FIELDS: [fn(&mut Description) -> &mut u64; 6] = [
+    |desc| &mut desc.p,
+    |desc| &mut desc.b,
+    |desc| &mut desc.e,
+    |desc| &mut desc.w,
+    |desc| &mut desc.n,
+    |desc| &mut desc.ato,
+];
+
+/// A bad description for each way to be one.
+pub fn each_bad(good: &Description) -> [Description; 9] {
+    let d = *good;
+    [
+        Description { p: 4, ..d },
+        Description { b: 0, ..d },
+        Description { b: 12, ..d },
+        Description { b: 4_104, ..d },
+        Description { e: 4, ..d },
+        Description { n: 0, ..d },
+        Description { n: 65_537, ..d },
+        Description { w: 1 << 63, ..d },
+        Description { ato: 2, ..d },
+    ]
+}
+
+/// The description with so many blocks that N × S is just above 2^bits, and the
+/// bytes above it: the segment's length for who cuts it to so many bits. Nothing
+/// if no count is so great.
+pub fn just_above(desc: &Description, bits: u32) -> Option<(Description, usize)> {
+    let stored = Intervals::of(desc).stored();
+    let n = (1 << bits) / stored + 1;
+    let desc = Description {
+        n: n as u64,
+        ..*desc
+    };
+    (n <= 65_536).then_some((desc, n * stored - (1 << bits)))
 }
 
 const PAST_TYPE: [u64; 12] = [

@@ -3,6 +3,9 @@
 use reference::Description;
 
 use crate::call::{Call, Function, Left};
+use crate::pages::Pages;
+
+const OTHERS: &str = "not the function's numbers and slices";
 
 /// What a call must leave, and its answer number if it gives one.
 pub struct Told {
@@ -14,11 +17,21 @@ pub struct Told {
 /// If the call has not the numbers and slices of its function.
 pub fn tell(call: &Call) -> Told {
     let mut lent = call.lent.clone();
-    let (returned, places, answer) = match call.function {
-        Function::Execute | Function::Fill => on_segment(call, &mut lent),
-        Function::Parity | Function::Rebuild | Function::Correct => on_stripe(call, &mut lent),
-        _ => on_bytes(call, &mut lent),
-    };
+    let mut slices: Vec<&mut [u8]> = lent.iter_mut().map(Vec::as_mut_slice).collect();
+    let mut longer = call.zeros.map(|(number, count)| {
+        let bytes = &call.lent[number];
+        let mut pages = Pages::new(bytes.len() + count);
+        pages.bytes_mut()[..bytes.len()].copy_from_slice(bytes);
+        (number, bytes.len() + count, pages)
+    });
+    if let Some((number, length, pages)) = &mut longer {
+        slices[*number] = &mut pages.bytes_mut()[..*length];
+    }
+    let (returned, places, answer) = call_reference(call.function, &call.numbers, &mut slices);
+    if let Some((number, _, pages)) = longer {
+        let length = lent[number].len();
+        lent[number].copy_from_slice(&pages.bytes()[..length]);
+    }
     Told {
         left: Left {
             returned,
@@ -31,7 +44,19 @@ pub fn tell(call: &Call) -> Told {
 }
 
 /// The number handed back, the numbers in the places, the answer.
-type Numbers = (u64, Vec<u64>, Option<u64>);
+pub type Numbers = (u64, Vec<u64>, Option<u64>);
+
+/// Calls the reference with a call's numbers and slices.
+///
+/// # Panics
+/// If they are not those of the function.
+pub fn call_reference(function: Function, numbers: &[u64], lent: &mut [&mut [u8]]) -> Numbers {
+    match function {
+        Function::Execute | Function::Fill => on_segment(numbers, lent),
+        Function::Parity | Function::Rebuild | Function::Correct => on_stripe(numbers, lent),
+        _ => on_bytes(function, numbers, lent),
+    }
+}
 
 fn answered(answer: u64) -> Numbers {
     (answer, Vec::new(), Some(answer))
@@ -46,8 +71,8 @@ fn description(numbers: &[u64]) -> (Description, &[u64]) {
     (Description { p, b, e, w, n, ato }, rest)
 }
 
-fn on_segment(call: &Call, lent: &mut [Vec<u8>]) -> Numbers {
-    let (desc, _) = description(&call.numbers);
+fn on_segment(numbers: &[u64], lent: &mut [&mut [u8]]) -> Numbers {
+    let (desc, _) = description(numbers);
     match lent {
         [segment, command, buffer] => {
             let outcome = reference::execute(&desc, segment, command, buffer);
@@ -55,22 +80,22 @@ fn on_segment(call: &Call, lent: &mut [Vec<u8>]) -> Numbers {
             (outcome.answer, places, Some(outcome.answer))
         }
         [segment] => answered(reference::fill(&desc, segment)),
-        _ => panic!("{call:?}"),
+        _ => panic!("{OTHERS}"),
     }
 }
 
-fn on_stripe(call: &Call, lent: &mut [Vec<u8>]) -> Numbers {
-    let (desc, rest) = description(&call.numbers);
+fn on_stripe(numbers: &[u64], lent: &mut [&mut [u8]]) -> Numbers {
+    let (desc, rest) = description(numbers);
     answered(match (rest, lent) {
         (&[k], [members, out]) => reference::parity(&desc, k, members, out),
         (&[k, lost], [parts, out]) => reference::rebuild(&desc, k, lost, parts, out),
         (&[], [old, fresh, parity]) => reference::correct(&desc, old, fresh, parity),
-        _ => panic!("{call:?}"),
+        _ => panic!("{OTHERS}"),
     })
 }
 
-fn on_bytes(call: &Call, lent: &mut [Vec<u8>]) -> Numbers {
-    match (call.function, &call.numbers[..], lent) {
+fn on_bytes(function: Function, numbers: &[u64], lent: &mut [&mut [u8]]) -> Numbers {
+    match (function, numbers, lent) {
         (Function::Format, &[spt, protect, fmtpinfo, usage], []) => {
             let (answer, kind) = reference::format_choice(spt, protect, fmtpinfo, usage);
             (answer, vec![kind], Some(answer))
@@ -80,7 +105,7 @@ fn on_bytes(call: &Call, lent: &mut [Vec<u8>]) -> Numbers {
         (Function::Guards, &[size], [data, out]) => answered(guards(data, size, out)),
         (Function::List, [], [input, out]) => list(input, out),
         (Function::Sense, &[number], []) => plain(sense(number)),
-        _ => panic!("{call:?}"),
+        _ => panic!("{OTHERS}"),
     }
 }
 

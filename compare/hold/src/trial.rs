@@ -2,9 +2,10 @@
 
 use crate::call::{Call, Library};
 use crate::compare::{Difference, compare};
+use crate::fence::Rooms;
 use crate::numbers::Numbers;
 use crate::report::Tally;
-use crate::{executes, formats, guards, listings, stripes};
+use crate::{executes, formats, guards, listings, stripes, watch};
 
 /// Whether library and reference agreed.
 pub type Held = Result<(), Box<Difference>>;
@@ -15,6 +16,7 @@ pub type Put<'a> = &'a mut dyn FnMut(Call) -> Held;
 /// A library on trial, and what was reached so far.
 pub struct Trial<'a, L> {
     library: &'a L,
+    rooms: Rooms,
     pub tally: Tally,
 }
 
@@ -22,26 +24,38 @@ impl<'a, L: Library> Trial<'a, L> {
     pub fn new(library: &'a L) -> Self {
         Trial {
             library,
+            rooms: Rooms::default(),
             tally: Tally::default(),
         }
     }
 
     pub fn put(&mut self, call: Call) -> Held {
         let function = call.function;
-        let skew = self.tally.inputs() % 8;
-        let answer = compare(self.library, call, skew as usize)?;
+        let number = self.tally.inputs();
+        watch::input(number);
+        let answer = compare(self.library, call, &mut self.rooms, number as usize % 8)?;
         self.tally.note(function, answer);
         Ok(())
     }
 
-    /// Every limit, length, code, fault, escape and lost part, each by itself.
+    /// Every limit, length, code, fault, escape and lost part by itself, what is
+    /// refused in pairs, and great numbers last.
     pub fn systematic(&mut self) -> Held {
         let put: Put = &mut |call| self.put(call);
         guards::each(put)?;
+        guards::large(put)?;
         formats::each(put)?;
+        formats::large(put)?;
         stripes::each(put)?;
+        stripes::pairs(put)?;
+        stripes::large(put)?;
+        stripes::most(put)?;
         listings::each(put)?;
-        executes::each(put)
+        listings::pairs(put)?;
+        listings::large(put)?;
+        executes::each(put)?;
+        executes::order::each(put)?;
+        executes::large::each(put)
     }
 
     /// Calls from a seed, biased to the limits.

@@ -5,7 +5,7 @@ use reference::Description;
 use crate::command::{Command, OPERATIONS, Operation, SIZES};
 use crate::numbers::Numbers;
 use crate::scene::Scene;
-use crate::segment::{Intervals, SHAPES, one_number_away};
+use crate::segment::{Intervals, SHAPES, one_bit_away, one_number_away};
 use crate::trial::{Held, Put};
 
 pub fn each(put: Put<'_>) -> Held {
@@ -20,13 +20,12 @@ pub fn each(put: Put<'_>) -> Held {
     every_escape(numbers, put)?;
     every_fault(numbers, put)?;
     every_transfer(numbers, put)?;
-    every_address(numbers, put)?;
-    largest(numbers, put)
+    every_address(numbers, put)
 }
 
 /// Four blocks, of which the command moves the middle two. The expected tags wrap
 /// within the transfer, and not every bit of the application tag is compared.
-fn middle(p: u64, e: u64, operation: Operation, size: usize) -> (Description, Command) {
+pub fn middle(p: u64, e: u64, operation: Operation, size: usize) -> (Description, Command) {
     let desc = Description {
         p,
         b: 8,
@@ -49,7 +48,7 @@ fn middle(p: u64, e: u64, operation: Operation, size: usize) -> (Description, Co
 }
 
 /// Every type and exponent with every operation, size and code.
-fn kinds() -> Vec<(Description, Command)> {
+pub fn kinds() -> Vec<(Description, Command)> {
     let mut out = Vec::new();
     for (p, e) in SHAPES {
         for operation in OPERATIONS {
@@ -287,7 +286,8 @@ fn every_description(numbers: &mut Numbers, put: Put<'_>) -> Held {
             continue;
         }
         let scene = Scene::right(desc, command, numbers);
-        for desc in one_number_away(&desc) {
+        let away = one_number_away(&desc).into_iter();
+        for desc in away.chain(one_bit_away(&desc)) {
             put(Scene {
                 desc,
                 ..scene.clone()
@@ -338,28 +338,4 @@ fn around(desc: &Description, command: Command) -> Vec<Command> {
         }
     }
     out
-}
-
-/// As many blocks as there may be, without a fault, with one in the last, and with
-/// another in the first.
-fn largest(numbers: &mut Numbers, put: Put<'_>) -> Held {
-    for p in 0..4 {
-        for operation in OPERATIONS {
-            let (desc, command) = middle(p, 0, operation, if p == 2 { 32 } else { 16 });
-            let desc = Description { n: 65_536, ..desc };
-            let command = Command {
-                code: u8::from(p != 0),
-                address: desc.w,
-                length: 65_536,
-                ..command
-            };
-            let mut scene = Scene::right(desc, command, numbers);
-            put(scene.call())?;
-            for place in [scene.judged().len() - 1, 0] {
-                scene.judged()[place] ^= 1;
-                put(scene.call())?;
-            }
-        }
-    }
-    Ok(())
 }

@@ -2,8 +2,8 @@
 
 use std::slice;
 
-use hold::call::{Call, Function, Lent, Library};
-use hold::told::tell;
+use hold::call::{Function, Lent, Library};
+use hold::told::call_reference;
 
 /// The reference behind the boundary.
 pub struct Honest;
@@ -17,33 +17,25 @@ impl Library for Honest {
         places: &[*mut u64],
     ) -> u64 {
         // SAFETY, here and below: the caller's promise.
-        let call = Call {
-            function,
-            numbers: numbers.to_vec(),
-            lent: lent.iter().map(|&lent| unsafe { bytes(lent) }).collect(),
-        };
-        let left = tell(&call).left;
-        for (lent, bytes) in lent.iter().zip(&left.lent) {
-            if lent.length > 0 {
-                unsafe { lent.pointer.copy_from(bytes.as_ptr(), lent.length) };
-            }
-        }
-        for (&place, &number) in places.iter().zip(&left.places) {
+        let mut slices: Vec<_> = lent.iter().map(|&lent| unsafe { slice(lent) }).collect();
+        let (returned, numbers, _) = call_reference(function, numbers, &mut slices);
+        for (&place, &number) in places.iter().zip(&numbers) {
             unsafe { *place = number };
         }
-        left.returned
+        returned
     }
 }
 
 /// The bytes lent; none for a null pointer.
 ///
 /// # Safety
-/// The pointer leads to as many bytes as the length says.
-pub unsafe fn bytes(lent: Lent) -> Vec<u8> {
+/// The pointer leads to as many bytes as the length says, and nothing else reads or
+/// writes them while the slice is used.
+unsafe fn slice<'a>(lent: Lent) -> &'a mut [u8] {
     if lent.length == 0 {
-        return Vec::new();
+        return &mut [];
     }
-    unsafe { slice::from_raw_parts(lent.pointer, lent.length) }.to_vec()
+    unsafe { slice::from_raw_parts_mut(lent.pointer, lent.length) }
 }
 
 /// A call on its way through a library with a fault.
@@ -61,9 +53,23 @@ impl Passing<'_> {
         unsafe { Honest.call(self.function, &self.numbers, self.lent, self.places) }
     }
 
-    pub fn bytes(&self, number: usize) -> Vec<u8> {
+    /// The same with another slice in the place of a lent one.
+    pub fn honest_with(&self, number: usize, slice: Lent) -> u64 {
+        let mut lent = self.lent.to_vec();
+        lent[number] = slice;
+        // SAFETY: the promise of the library's own caller, and the test's.
+        unsafe { Honest.call(self.function, &self.numbers, &lent, self.places) }
+    }
+
+    /// The same with other bytes.
+    pub fn honest_with_bytes(&self, number: usize, bytes: &mut [u8]) -> u64 {
+        let (pointer, length) = (bytes.as_mut_ptr(), bytes.len());
+        self.honest_with(number, Lent { pointer, length })
+    }
+
+    pub fn bytes(&self, number: usize) -> &[u8] {
         // SAFETY: the promise of the library's own caller.
-        unsafe { bytes(self.lent[number]) }
+        unsafe { slice(self.lent[number]) }
     }
 
     /// Writes a byte of a lent slice.
@@ -71,6 +77,13 @@ impl Passing<'_> {
         assert!(place < self.lent[number].length);
         // SAFETY: the place is within the slice.
         unsafe { *self.lent[number].pointer.add(place) = byte };
+    }
+
+    /// Reads a byte at a distance from the start of a lent slice, also outside it.
+    pub fn peek(&self, number: usize, distance: isize) {
+        let place = self.lent[number].pointer.wrapping_offset(distance);
+        // SAFETY: none; a page that nobody may touch ends the program.
+        unsafe { place.read_volatile() };
     }
 
     /// Turns over a bit at a distance from the start of a lent slice, also in the

@@ -1,6 +1,8 @@
 //! The comparison itself: an honest library passes, and each planted difference is
 //! found.
 
+mod classes;
 mod library;
+mod outside;
 mod planted;
 mod reached;

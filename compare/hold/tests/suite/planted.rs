@@ -2,22 +2,11 @@
 
 use hold::call::Function;
 use hold::compare::Difference;
-use hold::fence::Empty;
-use hold::trial::{Held, Put, Trial};
-use hold::{executes, formats, guards, listings, stripes};
+use hold::fence::Way;
+use hold::trial::Trial;
 
+use crate::classes::systematic;
 use crate::library::{Passing, Planted};
-
-/// The systematic calls of a function and its like.
-fn systematic(function: Function) -> fn(Put<'_>) -> Held {
-    match function {
-        Function::Execute => executes::each,
-        Function::Format | Function::Fill => formats::each,
-        Function::Parity | Function::Rebuild | Function::Correct => stripes::each,
-        Function::List => listings::each,
-        _ => guards::each,
-    }
-}
 
 /// The difference that the systematic calls find, in this function.
 fn found(function: Function, fault: impl Fn(Passing<'_>) -> u64) -> Box<Difference> {
@@ -231,7 +220,7 @@ fn a_null_pointer_refused() {
         }
         answer
     });
-    assert_eq!(difference.empty, Empty::Null);
+    assert_eq!(difference.way, Way::BehindPage);
 }
 
 #[test]
@@ -309,8 +298,8 @@ fn a_difference_shows_the_call_and_both_results() {
     assert_eq!(
         difference.to_string(),
         "function format\n\
-         empty slices lent by Place\n\
          numbers [3, 1, 3, 1]\n\
+         lent between fences\n\
          reference:\n  returned 0, places [3]\n\
          library:\n  returned 12, places [3]\n"
     );
