@@ -12,8 +12,8 @@ use Rattle.judge.specs.declared.Place.{Place}
 use Rattle.judge.specs.Judge.{nextInterval, nextBlock}
 use Rattle.judge.proofs.FirstLaws.{turn-of, own-of}
 use Rattle.judge.proofs.BlockLaws.{own-field, own-interval, own-any}
-use Rattle.listing.specs.declared.Line.{Line}
-use Rattle.listing.specs.Lines.{stateOf, lineOf, intervalLines, linesIn, blockLines}
+use Rattle.lines.specs.declared.Line.{Line}
+use Rattle.lines.specs.Lines.{stateOf, lineOf, intervalLines, linesIn, blockLines}
 
 -- ---- the lines of the intervals of a block
 module _ (r : Rules) (k : Bool) where

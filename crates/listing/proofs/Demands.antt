@@ -20,12 +20,12 @@ use Rattle.judge.proofs.FirstLaws.{orElse-good}
 use Rattle.checks.specs.Checks.{columnsOf, applicationKnown, rulesOf, startOf}
 use Rattle.text.proofs.Writing.{laid-length}
 use Rattle.text.proofs.Digits.{decimal-most}
-use Rattle.listing.specs.Lines.{worded, stateOf, lineOf, intervalLines, linesIn, blockLines, faulty, skips, countOf, linesText, headerText, intervalsText, faultsText, skippedText, numbersText, totalText}
-use Rattle.listing.specs.Record.{recordAnswer, describedBy, segmentIn}
+use Rattle.lines.specs.Lines.{worded, stateOf, lineOf, intervalLines, linesIn, blockLines, faulty, skips, countOf, linesText, headerText, intervalsText, faultsText, skippedText, numbersText, totalText}
+use Rattle.records.specs.Record.{recordAnswer, describedBy, segmentIn}
 use Rattle.listing.specs.Listing.{readAll, linesOf, listedText, refusedText, listing, Listed}
 use Rattle.listing.proofs.SheetLaws.{count-append, lines-most}
 use Rattle.listing.proofs.BlockLaws.{blocks-length}
-use Rattle.listing.proofs.RecordLaws.{record-whole}
+use Rattle.records.proofs.RecordLaws.{record-whole}
 use Rattle.listing.proofs.ListingLaws.{lines-none, lines-are, lines-length}
 
 -- ---- the last line's numbers are those of the lines that stand above it

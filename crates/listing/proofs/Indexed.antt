@@ -22,9 +22,9 @@ use Rattle.judge.proofs.FirstLaws.{after}
 use Rattle.checks.specs.Checks.{firstTag, rulesOf, startOf}
 use Rattle.checks.specs.Intervals.{intervalAt, placeAt, skipped, verdictAt}
 use Rattle.checks.proofs.Places.{tag-small, place-is}
-use Rattle.listing.specs.declared.Line.{Line}
-use Rattle.listing.specs.declared.State.the-variants.{Skipped}
-use Rattle.listing.specs.Lines.{worded, stateOf, lineOf, intervalLines, linesIn, blockLines, faulty}
+use Rattle.lines.specs.declared.Line.{Line}
+use Rattle.lines.specs.declared.State.the-variants.{Skipped}
+use Rattle.lines.specs.Lines.{worded, stateOf, lineOf, intervalLines, linesIn, blockLines, faulty}
 use Rattle.listing.specs.Listing.{readAll, linesOf}
 use Rattle.listing.specs.Indexed.{fieldAt, escapedAt, stateAt, lineAt}
 use Rattle.listing.proofs.BlockLaws.{block-length}

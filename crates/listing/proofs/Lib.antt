@@ -1,7 +1,5 @@
-pub mod LineLaws
 pub mod SheetLaws
 pub mod BlockLaws
-pub mod RecordLaws
 pub mod ListingLaws
 pub mod Demands
 pub mod States

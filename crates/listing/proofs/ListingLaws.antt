@@ -23,21 +23,15 @@ use Rattle.checks.specs.Checks.{rulesOf, startOf}
 use Rattle.text.specs.Text.{decimal}
 use Rattle.text.specs.Laid.{laid, Written}
 use Rattle.text.proofs.Writing.{written-then, written-as}
-use Rattle.listing.specs.declared.Sheet.{Sheet}
-use Rattle.listing.specs.Lines.{blockLines, headerText, intervalsText, faultsText, skippedText, numbersText, totalText, Printed, Room}
-use Rattle.listing.specs.Record.{recordAnswer, describedBy, segmentIn}
+use Rattle.lines.specs.declared.Sheet.{Sheet}
+use Rattle.lines.specs.Lines.{blockLines, headerText, numbersText, totalText, Printed, Room}
+use Rattle.records.specs.Record.{recordAnswer, describedBy, segmentIn}
 use Rattle.listing.specs.Listing.{readAll, linesOf, listedText, refusedText, listing, Listed}
 use Rattle.listing.proofs.SheetLaws.{sheet, printed-none, printed-as, room-next, room-less, first-room}
 use Rattle.listing.proofs.BlockLaws.{blocks-length}
-use Rattle.listing.proofs.RecordLaws.{Whole, record-whole}
+use Rattle.records.proofs.RecordLaws.{Whole, record-whole}
 
--- ---- the last line, and a refusal
-module _ (l f k : ℕ) {at a b c d e z : ℕ} {o oa ob oc od oe oz : List ℕ} where
-  pub numbers-written : Written intervalsText at o a oa → Written (decimal l) a oa b ob → Written faultsText b ob c oc → Written (decimal f) c oc d od
-      → Written skippedText d od e oe → Written (decimal k ++ (0x0A ∷ [])) e oe z oz → Written (numbersText l f k) at o z oz
-  unfolding numbersText
-  numbers-written wa wb wc wd we wz = written-then wa (written-then wb (written-then wc (written-then wd (written-then we wz))))
-
+-- ---- a refusal
 abbrev pub refusedWord : List ℕ
 refusedWord = 0x72 ∷ 0x65 ∷ 0x66 ∷ 0x75 ∷ 0x73 ∷ 0x65 ∷ 0x64 ∷ 0x20 ∷ []
 

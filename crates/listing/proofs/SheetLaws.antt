@@ -8,12 +8,12 @@ use native.Mathlib.Omega.{arith}
 use lib.ListN.{length, length-append}
 use Rattle.text.specs.Laid.{Written}
 use Rattle.text.proofs.Writing.{written-none, written-then, written-as}
-use Rattle.listing.specs.declared.Line.{Line}
-use Rattle.listing.specs.declared.Sheet.{Sheet}
-use Rattle.listing.specs.declared.State.{State}
-use Rattle.listing.specs.declared.State.the-variants.{Skipped, Guard, Ref, Ok}
-use Rattle.listing.specs.Lines.{faulty, skips, countOf, lineText, linesText, Printed, Room}
-use Rattle.listing.proofs.LineLaws.{line-most}
+use Rattle.lines.specs.declared.Line.{Line}
+use Rattle.lines.specs.declared.Sheet.{Sheet}
+use Rattle.lines.specs.declared.State.{State}
+use Rattle.lines.specs.declared.State.the-variants.{Skipped, Guard, Ref, Ok}
+use Rattle.lines.specs.Lines.{faulty, skips, countOf, lineText, linesText, Printed, Room}
+use Rattle.lines.proofs.LineLaws.{line-most}
 
 pub faulty-most : (x : State) → faulty x ≤ 1
 faulty-most Skipped = omega arith

@@ -3,7 +3,7 @@
 use mathlib.Core.Path.{_≡_, refl, ap, _∙_}
 use mathlib.Core.Bool.{Bool, true, false, not, _&&_, _||_, cond}
 use mathlib.Core.List.{List}
-use Prim.Native.Nat.{ℕ, _+_, _*_, _%_, _^_, _<_}
+use Prim.Native.Nat.{ℕ, _+_, _%_, _^_, _<_}
 use native.Mathlib.Nat.{mod-lt, mod-add-mod, mul-one, zero-add}
 use native.Mathlib.Omega.{arith}
 use borrow.Author.Tests.{eq-eqb}
@@ -17,9 +17,9 @@ use Rattle.judge.specs.Judge.{dataOf, fieldOf, storedGuard, storedReference, gu
 use Rattle.judge.proofs.FirstLaws.{after}
 use Rattle.judge.proofs.PlaceLaws.{place-after-block}
 use Rattle.checks.specs.Checks.{columnsOf, applicationKnown, referenceKnown, firstTag, rulesOf, startOf}
-use Rattle.listing.specs.declared.State.{State}
-use Rattle.listing.specs.declared.State.the-variants.{Skipped, Guard, Ref, Ok}
-use Rattle.listing.specs.Lines.{worded, stateOf}
+use Rattle.lines.specs.declared.State.{State}
+use Rattle.lines.specs.declared.State.the-variants.{Skipped, Guard, Ref, Ok}
+use Rattle.lines.specs.Lines.{worded, stateOf}
 use Rattle.listing.specs.Listing.{readAll}
 
 abbrev inWords : Bool → Bool → Bool → State

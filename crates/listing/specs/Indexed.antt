@@ -10,9 +10,9 @@ use Rattle.command.specs.declared.Operation.the-variants.{Read}
 use Rattle.judge.specs.Judge.{storedGuard, storedApplication, storedReference, dataOf, fieldOf, anyEscapes}
 use Rattle.checks.specs.Checks.{escapeOf}
 use Rattle.checks.specs.Intervals.{blockAt, intervalAt}
-use Rattle.listing.specs.declared.Line.{Line}
-use Rattle.listing.specs.declared.State.{State}
-use Rattle.listing.specs.declared.State.the-variants.{Skipped, Guard, Ref, Ok}
+use Rattle.lines.specs.declared.Line.{Line}
+use Rattle.lines.specs.declared.State.{State}
+use Rattle.lines.specs.declared.State.the-variants.{Skipped, Guard, Ref, Ok}
 
 -- the data and the eight field bytes of interval i in block j
 abbrev pub dataAt : Description → List ℕ → ℕ → ℕ → List ℕ

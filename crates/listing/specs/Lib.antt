@@ -1,4 +1,2 @@
-pub mod Lines
-pub mod Record
 pub mod Listing
 pub mod Indexed

@@ -13,9 +13,9 @@ use Rattle.command.specs.declared.Operation.the-variants.{Read}
 use Rattle.checks.specs.Checks.{rulesOf, startOf}
 use Rattle.text.specs.Text.{decimal}
 use Rattle.text.specs.Laid.{laid}
-use Rattle.listing.specs.declared.Line.{Line}
-use Rattle.listing.specs.Lines.{blockLines, linesText, headerText, totalText}
-use Rattle.listing.specs.Record.{recordAnswer, describedBy, segmentIn}
+use Rattle.lines.specs.declared.Line.{Line}
+use Rattle.lines.specs.Lines.{blockLines, linesText, headerText, totalText}
+use Rattle.records.specs.Record.{recordAnswer, describedBy, segmentIn}
 
 -- The states are those of judging with what code 001 of a 16-byte READ of the whole segment checks: the guard, and in type 1 the
 -- reference. The type rules are not applied: in type 2 such a command itself would be answered 5.

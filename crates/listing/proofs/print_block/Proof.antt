@@ -12,9 +12,9 @@ use Rattle.judge.specs.declared.Rules.{Rules}
 use Rattle.judge.specs.declared.Place.{Place}
 use Rattle.judge.specs.Judge.{anyEscapes, nextInterval, Run}
 use Rattle.text.proofs.Writing.{written-length}
-use Rattle.listing.specs.declared.Line.{Line}
-use Rattle.listing.specs.declared.Sheet.{Sheet}
-use Rattle.listing.specs.Lines.{lineOf, intervalLines, linesIn, Printed, Room}
+use Rattle.lines.specs.declared.Line.{Line}
+use Rattle.lines.specs.declared.Sheet.{Sheet}
+use Rattle.lines.specs.Lines.{lineOf, intervalLines, linesIn, Printed, Room}
 use Rattle.listing.proofs.SheetLaws.{printed-none, printed-then, printed-as, room-next, room-less}
 use Rattle.listing.proofs.BlockLaws.{interval-turn, own-line, intervals-none}
 use borrow.Author.Needs.{needs}

@@ -13,9 +13,9 @@ use Rattle.judge.specs.declared.Place.{Place}
 use Rattle.judge.specs.Judge.{nextBlock, Run}
 use Rattle.judge.proofs.BlockLaws.{first-within, first-run, first-room, rest-run, block-fits}
 use Rattle.text.proofs.Writing.{written-length}
-use Rattle.listing.specs.declared.Line.{Line}
-use Rattle.listing.specs.declared.Sheet.{Sheet}
-use Rattle.listing.specs.Lines.{linesIn, blockLines, Printed, Room}
+use Rattle.lines.specs.declared.Line.{Line}
+use Rattle.lines.specs.declared.Sheet.{Sheet}
+use Rattle.lines.specs.Lines.{linesIn, blockLines, Printed, Room}
 use Rattle.listing.proofs.SheetLaws.{printed-none, printed-then, printed-as, room-next, room-less}
 use Rattle.listing.proofs.BlockLaws.{block-turn, own-block-lines, blocks-none, block-length}
 use borrow.Author.Needs.{needs}

@@ -6,7 +6,7 @@ use lib.Dec.{lit≤}
 use Rattle.text.proofs.Writing.{written-length}
 use Rattle.listing.proofs.SheetLaws.{first-room}
 use Rattle.listing.proofs.ListingLaws.{lines-end, listed-written}
-use Rattle.listing.specs.Lines.{headerText}
+use Rattle.lines.specs.Lines.{headerText}
 use Rattle.listing.proofs.print_listed.Statement.{statement}
 use Rattle.listing.proofs.print_listed.Tie as tie
 

@@ -1,10 +1,10 @@
--- `listing::described`: each field at its place.
+-- `records::described`: each field at its place.
 -- Assumes nothing.
 use native.Mathlib.Omega.{arith}
-use Rattle.listing.proofs.RecordLaws.{described-made}
+use Rattle.records.proofs.RecordLaws.{described-made}
 use borrow.Author.Needs.{needs}
-use Rattle.listing.proofs.described.Statement.{statement}
-use Rattle.listing.proofs.described.Tie as tie
+use Rattle.records.proofs.described.Statement.{statement}
+use Rattle.records.proofs.described.Tie as tie
 
 cast-t4 : tie.Need-cast-t4
 cast-t4 c = omega (arith, c .shared-slice-known2 .given 5)

@@ -1,11 +1,11 @@
--- `listing::frame_bad`: each refusal denies a fact of the frame, and the last return has them all.
+-- `records::frame_bad`: each refusal denies a fact of the frame, and the last return has them all.
 -- Assumes nothing.
 use native.Mathlib.Omega.{arith}
 use mathlib.Core.Path.{sym}
-use Rattle.listing.proofs.RecordLaws.{frame-bad, frame-good}
+use Rattle.records.proofs.RecordLaws.{frame-bad, frame-good}
 use borrow.Author.Needs.{needs}
-use Rattle.listing.proofs.frame_bad.Statement.{statement}
-use Rattle.listing.proofs.frame_bad.Tie as tie
+use Rattle.records.proofs.frame_bad.Statement.{statement}
+use Rattle.records.proofs.frame_bad.Tie as tie
 
 returns : tie.Need-returns
 returns c = frame-bad _ (λ f. omega (arith, f .start))

@@ -1,12 +1,12 @@
--- `listing::print_line`: one text after another, each with room left for those behind it.
+-- `lines::print_line`: one text after another, each with room left for those behind it.
 -- Assumes nothing.
 use Prim.Native.Nat.{_+_, _≤_, _^_}
 use native.Mathlib.Omega.{arith}
 use Rattle.text.proofs.Writing.{written-length}
 use Rattle.text.proofs.Digits.{decimal-then-end, hexadecimal-then-end}
-use Rattle.listing.proofs.LineLaws.{line-written, state-end}
-use Rattle.listing.proofs.print_line.Statement.{statement}
-use Rattle.listing.proofs.print_line.Tie as tie
+use Rattle.lines.proofs.LineLaws.{line-written, state-end}
+use Rattle.lines.proofs.print_line.Statement.{statement}
+use Rattle.lines.proofs.print_line.Tie as tie
 
 -- the room behind each text
 room1 : (c : tie.After-decimal-then) → c .decimal-then .result + 48 ≤ 2 ^ 32

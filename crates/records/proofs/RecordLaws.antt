@@ -14,7 +14,7 @@ use Rattle.answer.specs.declared.Answer.the-variants as answers
 use Rattle.segment.specs.declared.Description.{Description}
 use Rattle.segment.specs.Segment.{isSegment, Segment, lengthOf}
 use Rattle.segment.proofs.Laws.{segment-facts, is-segment}
-use Rattle.listing.specs.Record.{frameBad, Framed, describedBy, segmentIn, recordAnswer}
+use Rattle.records.specs.Record.{frameBad, Framed, describedBy, segmentIn, recordAnswer}
 
 -- ---- the frame
 pub frame-facts : (input : List ℕ) → frameBad input ≡ false → Framed input

@@ -1,9 +1,9 @@
--- `listing::line_of`: the fields stand behind the data.
+-- `lines::line_of`: the fields stand behind the data.
 -- Assumes nothing.
-use Rattle.listing.proofs.LineLaws.{line-made}
+use Rattle.lines.proofs.LineLaws.{line-made}
 use borrow.Author.Needs.{needs}
-use Rattle.listing.proofs.line_of.Statement.{statement}
-use Rattle.listing.proofs.line_of.Tie as tie
+use Rattle.lines.proofs.line_of.Statement.{statement}
+use Rattle.lines.proofs.line_of.Tie as tie
 
 returns : tie.Need-returns
 returns c = line-made _ _ _ _ _ _ _ _ _ (c .before .before .before .before .before .before .pre .1) (c .before .before .before .read2 .ensures) (c .before .before .read22 .ensures) (c .before .read4 .ensures) (c .state-of .ensures)

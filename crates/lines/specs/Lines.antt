@@ -11,10 +11,10 @@ use Rattle.judge.specs.declared.Place.{Place}
 use Rattle.judge.specs.Judge.{storedGuard, storedApplication, storedReference, fieldOf, anyEscapes, judgeInterval, nextInterval, nextBlock}
 use Rattle.text.specs.Text.{hexadecimal, decimal}
 use Rattle.text.specs.Laid.{Written}
-use Rattle.listing.specs.declared.Line.{Line}
-use Rattle.listing.specs.declared.Sheet.{Sheet}
-use Rattle.listing.specs.declared.State.{State}
-use Rattle.listing.specs.declared.State.the-variants.{Skipped, Guard, Ref, Ok}
+use Rattle.lines.specs.declared.Line.{Line}
+use Rattle.lines.specs.declared.Sheet.{Sheet}
+use Rattle.lines.specs.declared.State.{State}
+use Rattle.lines.specs.declared.State.the-variants.{Skipped, Guard, Ref, Ok}
 
 -- what judging says of an interval, as a word of the listing
 abbrev pub worded : Answer → State

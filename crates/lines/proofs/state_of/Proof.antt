@@ -1,12 +1,12 @@
--- `listing::state_of`: skipped, or what judging says of the interval's two pieces.
+-- `lines::state_of`: skipped, or what judging says of the interval's two pieces.
 -- Assumes nothing.
-use Rattle.listing.proofs.LineLaws.{state-skipped, state-judged}
+use Rattle.lines.proofs.LineLaws.{state-skipped, state-judged}
 use mathlib.Core.Path.{sym}
 use native.Mathlib.Omega.{arith}
 use lib.Seq.{length-take-le}
 use borrow.Author.Needs.{needs}
-use Rattle.listing.proofs.state_of.Statement.{statement}
-use Rattle.listing.proofs.state_of.Tie as tie
+use Rattle.lines.proofs.state_of.Statement.{statement}
+use Rattle.lines.proofs.state_of.Tie as tie
 
 returns : tie.Need-returns
 returns c = state-skipped _ _ _ _ (c .if1 .taken)

@@ -1,11 +1,11 @@
--- `listing::print_state`: the word of each state.
+-- `lines::print_state`: the word of each state.
 -- Assumes nothing.
 use mathlib.Core.Path.{refl, sym, ap}
 use Rattle.text.proofs.Writing.{written-as}
-use Rattle.listing.specs.Lines.{stateText}
+use Rattle.lines.specs.Lines.{stateText}
 use borrow.Author.Needs.{needs}
-use Rattle.listing.proofs.print_state.Statement.{statement}
-use Rattle.listing.proofs.print_state.Tie as tie
+use Rattle.lines.proofs.print_state.Statement.{statement}
+use Rattle.lines.proofs.print_state.Tie as tie
 
 enum-told : tie.Need-enum-told
 enum-told c = search needs

@@ -1,14 +1,14 @@
--- `listing::record_answer`: the frame, the description, the length, in that order.
+-- `records::record_answer`: the frame, the description, the length, in that order.
 -- Assumes nothing.
 use native.Mathlib.Omega.{arith}
 use mathlib.Core.Path.{sym, _∙_}
 use Prim.Native.Nat.{_-_}
 use lib.ListN.{length}
 use Rattle.segment.proofs.Laws.{described, undescribed}
-use Rattle.listing.proofs.RecordLaws.{record-frame, record-framed, record-description, record-segment, record-good, segment-length}
+use Rattle.records.proofs.RecordLaws.{record-frame, record-framed, record-description, record-segment, record-good, segment-length}
 use borrow.Author.Needs.{needs}
-use Rattle.listing.proofs.record_answer.Statement.{statement}
-use Rattle.listing.proofs.record_answer.Tie as tie
+use Rattle.records.proofs.record_answer.Statement.{statement}
+use Rattle.records.proofs.record_answer.Tie as tie
 
 returns : tie.Need-returns
 returns c = record-frame _ (c .before .frame-bad .ensures) (c .if1 .taken)

@@ -1,0 +1,152 @@
+// A line of the listing, before and as it is printed; and the last line, which counts them.
+ghost use mathlib.Core.Path.{_≡_};
+ghost use mathlib.Core.List.{_∷_, []};
+ghost use Prim.Native.Nat.{_+_, _≤_, _^_};
+ghost use lib.ListN.{length};
+ghost use Rattle.guard.specs.Table.{Right};
+ghost use Rattle.text.specs.Laid.{Written};
+ghost use Rattle.lines.specs.Lines.{worded, stateOf, lineOf, faulty, skips, stateText, lineText, numbersText};
+use answer::Answer;
+use judge::Place;
+use judge::Rules;
+
+// The state of an interval's line.
+pub enum State {
+    Skipped,
+    Guard,
+    Ref,
+    Ok,
+}
+
+// A line of the listing, before it is printed.
+pub struct Line {
+    pub address: u64,
+    pub interval: u64,
+    pub guard: u16,
+    pub application: u16,
+    pub reference: u32,
+    pub state: State,
+}
+
+// Where printing stands: the place in the buffer, and the lines so far: all, those with a fault, those skipped.
+pub struct Sheet {
+    pub at: usize,
+    pub lines: u64,
+    pub faults: u64,
+    pub skipped: u64,
+}
+
+// What judging says of an interval, as a word of the listing.
+fn worded(a: Answer) -> State
+    ensures { λ r. ⌜ r ≡ worded a ⌝ }
+{
+    match a {
+        Answer::Good => State::Ok,
+        Answer::Description => State::Ok,
+        Answer::Segment => State::Ok,
+        Answer::CommandLength => State::Ok,
+        Answer::BufferLength => State::Ok,
+        Answer::Operation => State::Ok,
+        Answer::Field => State::Ok,
+        Answer::Address => State::Ok,
+        Answer::Guard(_, _) => State::Guard,
+        Answer::Application(_, _) => State::Ok,
+        Answer::Reference(_, _) => State::Ref,
+        Answer::Stripe => State::Ok,
+        Answer::Parameter => State::Ok,
+        Answer::Listing => State::Ok,
+        Answer::Size => State::Ok,
+    }
+}
+
+pub fn faulty(s: State) -> u64
+    ensures { λ r. ⌜ r ≡ faulty s ⌝ }
+{
+    match s {
+        State::Skipped => 0,
+        State::Guard => 1,
+        State::Ref => 1,
+        State::Ok => 0,
+    }
+}
+
+pub fn skips(s: State) -> u64
+    ensures { λ r. ⌜ r ≡ skips s ⌝ }
+{
+    match s {
+        State::Skipped => 1,
+        State::Guard => 0,
+        State::Ref => 0,
+        State::Ok => 0,
+    }
+}
+
+// The state of the interval that `s` is: its data and its field.
+fn state_of(t: &[u16; 256], r: Rules, skipped: bool, p: Place, s: &[u8]) -> State
+    requires { ⌜ Right (now t) ⌝ }
+    requires { ⌜ r .size + 8 ≡ length (now s) ⌝ }
+    ensures { λ x. ⌜ x ≡ stateOf r skipped p (now (s .entry)) ⌝ }
+{
+    if skipped {
+        return State::Skipped;
+    }
+    let size = r.size;
+    worded(judge::judge_pieces(t, r, p, &s[..size], &s[size..]))
+}
+
+// The line of the interval that `s` is, the one numbered `i` of its block.
+pub fn line_of(t: &[u16; 256], r: Rules, skipped: bool, i: u64, p: Place, s: &[u8]) -> Line
+    requires { ⌜ Right (now t) ⌝ }
+    requires { ⌜ r .size + 8 ≡ length (now s) ⌝ }
+    ensures { λ l. ⌜ l ≡ lineOf r skipped i p (now (s .entry)) ⌝ }
+{
+    let size = r.size;
+    let field = &s[size..];
+    Line {
+        address: p.address,
+        interval: i,
+        guard: words::read2(field, 0),
+        application: words::read2(field, 2),
+        reference: words::read4(field, 4),
+        state: state_of(t, r, skipped, p, s),
+    }
+}
+
+fn print_state(out: &mut [u8], at: usize, s: State) -> usize
+    requires { ⌜ at + 7 ≤ 2 ^ 32 ⌝ }
+    ensures { λ r. ⌜ Written (stateText s) at (now (out .entry)) r (now (out .exit)) ⌝ }
+{
+    match s {
+        State::Skipped => text::put_word(out, at, b"skipped"),
+        State::Guard => text::put_word(out, at, b"guard"),
+        State::Ref => text::put_word(out, at, b"ref"),
+        State::Ok => text::put_word(out, at, b"ok"),
+    }
+}
+
+pub fn print_line(out: &mut [u8], at: usize, l: Line) -> usize
+    requires { ⌜ at + 69 ≤ 2 ^ 32 ⌝ }
+    ensures { λ r. ⌜ Written (lineText l) at (now (out .entry)) r (now (out .exit)) ⌝ }
+{
+    let state = l.state;
+    let a = text::decimal_then(out, at, l.address, 0x20);
+    let i = text::decimal_then(out, a, l.interval, 0x20);
+    let g = text::hexadecimal_then(out, i, 4, l.guard as u64, 0x20);
+    let m = text::hexadecimal_then(out, g, 4, l.application as u64, 0x20);
+    let f = text::hexadecimal_then(out, m, 8, l.reference as u64, 0x20);
+    let e = print_state(out, f, state);
+    text::put(out, e, 0x0A)
+}
+
+// The last line: how many lines there are, how many with a fault, how many skipped.
+pub fn print_total(out: &mut [u8], t: Sheet) -> usize
+    requires { ⌜ t .at + 88 ≤ 2 ^ 32 ⌝ }
+    ensures { λ r. ⌜ Written (numbersText (t .lines) (t .faults) (t .skipped)) (t .at) (now (out .entry)) r (now (out .exit)) ⌝ }
+{
+    let a = text::put_word(out, t.at, b"intervals ");
+    let b = text::decimal(out, a, t.lines);
+    let c = text::put_word(out, b, b" faults ");
+    let d = text::decimal(out, c, t.faults);
+    let e = text::put_word(out, d, b" skipped ");
+    text::decimal_then(out, e, t.skipped, 0x0A)
+}
