@@ -1,5 +1,5 @@
 /*
- * A cabinet in small: serves commands on a segment kept in a file.
+ * A small cabinet: serves commands on a segment kept in a file.
  *
  *   cabinet incident                      tells the incident, step by step
  *   cabinet --new FILE P B e W N ATO      makes a fresh segment file

@@ -244,8 +244,9 @@ uint64_t lamptassel_guards(const uint8_t *data, size_t length, size_t size, uint
 
 /*
  * Writes the listing of a record: a header, one line for each interval of its segment, with
- * its fields and whether they are right, and the totals. For a record that is refused it is
- * one line: "refused 13" if the record is bad, "refused 1" if it describes no segment,
+ * its fields and its state (skipped, guard, ref or ok: the reference tag is judged in type 1
+ * alone, the application tag never), and the totals. For a record that is refused it is one
+ * line: "refused 13" if the record is bad, "refused 1" if it describes no segment,
  * "refused 2" if its segment has another length than described. Each line ends with a line
  * feed; there is no zero byte at the end.
  *

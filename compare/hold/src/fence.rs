@@ -23,13 +23,13 @@ const FENCE: [u8; WIDTH] = {
 /// What stands in a place for a number before the call.
 const EMPTY: u64 = 0x5AA5_3CC3_9669_0FF0;
 
-/// How the slices of a call are lent. C programs lend no bytes by a null pointer,
-/// others by the place where the bytes would be.
+/// How the slices of a call are lent. Some C programs lend an empty slice by a null
+/// pointer, others by the place where the bytes would be.
 #[derive(Clone, Copy, Debug, PartialEq, Eq)]
 pub enum Way {
     /// Between two fences, at this distance from a word's boundary.
     Fenced(usize),
-    /// Right behind a page that nobody may touch; no bytes by a null pointer.
+    /// Right behind a page that nobody may touch; an empty slice by a null pointer.
     BehindPage,
     /// Right before such a page.
     BeforePage,
@@ -39,7 +39,9 @@ impl fmt::Display for Way {
     fn fmt(&self, f: &mut fmt::Formatter<'_>) -> fmt::Result {
         f.write_str(match self {
             Way::Fenced(_) => "between fences",
-            Way::BehindPage => "right behind a page that nobody may touch, no bytes by null",
+            Way::BehindPage => {
+                "right behind a page that nobody may touch, an empty slice by a null pointer"
+            }
             Way::BeforePage => "right before a page that nobody may touch",
         })
     }

@@ -1,8 +1,7 @@
 //! Holds the archive against the reference on very many calls.
 //!
 //! Exit status 1 if they part, an answer was not reached, or memory was touched that
-//! was not lent; 2 for arguments it
-//! does not know; 3 if its output cannot be written.
+//! was not lent; 2 for arguments it does not know; 3 if its output cannot be written.
 
 mod linked;
 

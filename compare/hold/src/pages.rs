@@ -35,7 +35,7 @@ impl Pages {
     /// At least so many bytes.
     ///
     /// # Panics
-    /// If the system has not so much memory.
+    /// If the system does not have that much memory.
     pub fn new(bytes: usize) -> Self {
         let length = bytes.next_multiple_of(PAGE);
         // SAFETY: new memory, which is nobody else's; its middle becomes usable.

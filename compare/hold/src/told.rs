@@ -14,7 +14,7 @@ pub struct Told {
 }
 
 /// # Panics
-/// If the call has not the numbers and slices of its function.
+/// If the call does not have its function's numbers and slices.
 pub fn tell(call: &Call) -> Told {
     let mut lent = call.lent.clone();
     let mut slices: Vec<&mut [u8]> = lent.iter_mut().map(Vec::as_mut_slice).collect();

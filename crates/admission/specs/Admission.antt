@@ -1,5 +1,5 @@
 -- "Order for a command": all that is decided on the description, the lengths and the command's bytes.
-use Prim.Native.Nat.{ℕ, _+_, _*_, _^_, _-_}
+use Prim.Native.Nat.{ℕ, _+_, _*_}
 use mathlib.Core.Bool.{Bool, true, false, not, _&&_, _||_, cond}
 use mathlib.Core.List.{List}
 use lib.Dec.{eqb, ltb}

@@ -1,7 +1,7 @@
 -- Each answer's number is one of the table's, with the table's sense; of these 0 is good and no other is.
 -- Assumes nothing.
 use mathlib.Core.Path.{_≡_, refl}
-use mathlib.Core.Bool.{Bool, true}
+use mathlib.Core.Bool.{true}
 use mathlib.Core.List.{map}
 use lib.Dec.{eqb}
 use Rattle.answer.specs.Answer.{numberOf, isGood, senseNumbered, Row, table, inTable}

@@ -3,14 +3,14 @@
 use mathlib.Core.Path.{_≡_, refl, sym, ap, ap₂, _∙_}
 use mathlib.Core.List.{List, [], _∷_, _++_, append-assoc}
 use Prim.Native.Nat.{ℕ, zero, suc, _+_, _-_, _*_, _≤_}
-use native.Mathlib.Nat.{suc-mul, zero-mul, add-comm, zero-add, suc-add, le-of-eq}
+use native.Mathlib.Nat.{suc-mul, zero-mul, zero-add, suc-add, le-of-eq}
 use native.Mathlib.Omega.{arith}
 use lib.Dec.{lit<}
 use lib.ListN.{length, take, drop, length-append, length-drop, take-append-drop}
-use lib.Seq.{drop-append-le, drop-at, drop-drop, take-add, length-take-le}
+use lib.Seq.{drop-append-le, drop-at, take-add, length-take-le}
 use Rattle.words.specs.Parts.{Bytes}
 use Rattle.words.specs.Runs.{runs}
-use Rattle.words.proofs.Parts.{part-at, drop-bytes}
+use Rattle.words.proofs.Parts.{part-at, one-more, drop-more, drop-bytes}
 use Rattle.blocks.proofs.Places.{append-bytes}
 
 -- one piece, and the rest
@@ -19,9 +19,6 @@ one-within k P n h = omega (arith, suc-mul k P)
 
 pub rest-within : (k P : ℕ) (s : List ℕ) → suc k * P ≤ length s → k * P ≤ length (drop P s)
 rest-within k P s h = rw length-drop (omega (arith, suc-mul k P))
-
-pub one-more : (k P : ℕ) → suc k * P ≡ P + k * P
-one-more k P = suc-mul k P ∙ add-comm (k * P) P
 
 module _ {A : Type 0} (piece : A → List ℕ → List ℕ) (next : A → A) (P : ℕ) where
   pub runs-none : (k : ℕ) (t : A) (s : List ℕ) → k ≤ 0 → runs piece next P k t s ≡ []
@@ -96,7 +93,7 @@ module _ {A : Type 0} (piece : A → List ℕ → List ℕ) (P : ℕ) (t : A) wh
       rw suc-add
       (ap (λ (l : List ℕ). piece t s ++ l)
       (runs-add a b (drop P s)
-      ∙ ap (λ (l : List ℕ). runs piece (λ u. u) P a t (drop P s) ++ runs piece (λ u. u) P b t l) (drop-drop (a * P) P s ∙ ap (λ (n : ℕ). drop n s) (sym (one-more a P))))
+      ∙ ap (λ (l : List ℕ). runs piece (λ u. u) P a t (drop P s) ++ runs piece (λ u. u) P b t l) (drop-more P a s))
       ∙ sym (append-assoc (piece t s) _ _))
 
   pub runs-lots : (n k : ℕ) (s : List ℕ) → runs piece (λ u. u) P (k * n) t s ≡ runs (λ (u : ℕ) (l : List ℕ). runs piece (λ u. u) P n t l) (λ u. u) (n * P) k 0 s

@@ -34,7 +34,7 @@ placeAt d c j i =
 abbrev pub skipped : Description → Command → List ℕ → ℕ → Bool
 skipped d c s j = anyEscapes (rulesOf d c .escape) (sizeOf d) (intervalsOf d) (blockAt d s j)
 
--- what is wrong with interval i of block j, and good where it is right or not checked: "then intervals in order, and in one
--- interval guard, application, reference"
+-- of blocks under check: what is wrong with interval i of block j, and good where it is right or its block has the escape: "then
+-- intervals in order, and in one interval guard, application, reference"
 abbrev pub verdictAt : Description → Command → List ℕ → ℕ → ℕ → Answer
 verdictAt d c s j i = cond (skipped d c s j) answers.Good (judgeInterval (rulesOf d c) (placeAt d c j i) (intervalAt d s j i))

@@ -13,6 +13,7 @@ use lib.ListN.{length, getD, take, drop, length-take}
 use Rattle.words.specs.BigEndian.{numberAt}
 use Rattle.words.specs.Parts.{Bytes}
 use Rattle.words.proofs.BigEndian.{number-lt}
+use Rattle.words.proofs.Choice.{unwrong}
 use Rattle.words.proofs.Parts.{part-bytes}
 use Rattle.answer.specs.declared.Answer.{Answer}
 use Rattle.answer.specs.declared.Answer.the-variants as answers
@@ -49,7 +50,7 @@ laid-within f e h = rw (e, h) (within f)
 
 -- ---- the rows of the table
 
--- A and that v is none of the rows' values
+-- A, and v is not the value of any row
 abbrev pub Beside : Type 0 → ℕ → List Row → Type 0
 Beside A v [] = A
 Beside A v (r ∷ rs) = Beside (A × (v ≡ r .value → ⊥)) v rs
@@ -97,10 +98,6 @@ unfolding fields
 asked o f c el es ek ea en et ep em = rw (ek, ea, en, et, ep, em, el, es)
 
 -- ---- the refusals
-passed : (b : Bool) (x : ℕ) → (b ≡ true → x ≡ 0x18) → (b && not (eqb x 0x18)) ≡ false
-passed false x h = refl
-passed true x h = rw (eq-eqb x 0x18 (h refl))
-
 module _ (o : Operation) (f : Form) (c : List ℕ) where
   pub decode-length : (length c ≡ layoutOf f .bytes → ⊥) → decodeAs o f c ≡ Refused answers.CommandLength
   unfolding decodeAs
@@ -112,7 +109,7 @@ module _ (o : Operation) (f : Form) (c : List ℕ) where
 
   pub decode-served : length c ≡ layoutOf f .bytes → (isLong f ≡ true → getD c 7 0 ≡ 0x18) → decodeAs o f c ≡ Served (fields o f c)
   unfolding decodeAs
-  decode-served e h = rw (eq-eqb (length c) (layoutOf f .bytes) e, passed (isLong f) (getD c 7 0) h)
+  decode-served e h = rw (eq-eqb (length c) (layoutOf f .bytes) e, unwrong (isLong f) (getD c 7 0) 0x18 h)
 
 module _ (c : List ℕ) where
   pub decode-known : {o : Operation} {f : Form} → recognise c ≡ Known o f → decode c ≡ decodeAs o f c

@@ -1,6 +1,5 @@
 // From a command's bytes to what it asks for, by value; or the refusal.
 ghost use mathlib.Core.Path.{_≡_};
-ghost use Prim.Native.Nat.{_≤_};
 ghost use lib.ListN.{length};
 ghost use Rattle.command.specs.Command.{checkBits, recognise, layoutOf, isLong, fields, decodeAs, decode};
 use answer::Answer;

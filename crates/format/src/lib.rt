@@ -1,9 +1,8 @@
 // The format choice, and filling a fresh segment.
 ghost use mathlib.Core.Path.{_≡_};
 ghost use Prim.Native.Nat.{_*_, _+_};
-ghost use lib.ListN.{length, replicate};
-ghost use Rattle.segment.specs.Segment.{Segment, lengthOf};
-ghost use Rattle.format.specs.Choice.{choiceOf, ranges, sentences, supports, byUsage, formatted, illegal};
+ghost use lib.ListN.{length};
+ghost use Rattle.format.specs.Choice.{choiceOf, ranges, sentences, supports, byUsage, illegal};
 ghost use Rattle.format.specs.Fresh.{filled, filledOf, freshInterval, freshIntervals};
 use answer::Answer;
 use segment::Description;

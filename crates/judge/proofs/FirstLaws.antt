@@ -9,6 +9,7 @@ use native.Mathlib.Nat.{suc-add, suc-mul, zero-mul, zero-add, add-comm, le-of-su
 use native.Mathlib.Omega.{arith}
 use lib.ListN.{take, drop}
 use lib.Seq.{drop-drop, take-nil, take-take}
+use Rattle.words.proofs.Parts.{one-more}
 use Rattle.answer.specs.Answer.{isGood, orElse}
 use Rattle.answer.specs.declared.Answer.{Answer}
 use Rattle.answer.specs.declared.Answer.the-variants as answers
@@ -59,8 +60,7 @@ module _ {A C : Type 0} (piece : A → List ℕ → C) (next : A → A) (P : ℕ
         → (k : ℕ) (t : A) (s : List ℕ) → F k t (take (k * P) s) ≡ F k t s
     own-of none own zero t s = rw zero-mul (none t s)
     own-of none own (suc k) t s =
-        let long : suc k * P ≡ P + k * P = suc-mul k P ∙ add-comm (k * P) P in
-        rw long
+        rw (one-more k P)
         (turned k t (take (P + k * P) s)
         ∙ ap₂ op (sym (own t (take (P + k * P) s)) ∙ ap (piece t) (take-take P (P + k * P) s (omega arith)) ∙ own t s)
         (ap (F k (next t)) (drop-take P (k * P) s) ∙ own-of none own k (next t) (drop P s))

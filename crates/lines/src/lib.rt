@@ -1,6 +1,5 @@
-// A line of the listing, before and as it is printed; and the last line, which counts them.
+// A line of the listing, before and as it is printed; and the last line, which counts the lines.
 ghost use mathlib.Core.Path.{_≡_};
-ghost use mathlib.Core.List.{_∷_, []};
 ghost use Prim.Native.Nat.{_+_, _≤_, _^_};
 ghost use lib.ListN.{length};
 ghost use Rattle.guard.specs.Table.{Right};

@@ -1,4 +1,4 @@
--- Line j × n + i of a listing is that of interval i in block j: the address W + j, the interval i, its stored bytes and its
+-- Line j × n + i of a listing, counted from 0 behind the header, is that of interval i in block j: the address W + j, the interval i, its stored bytes and its
 -- state; and the state is `guard` or `ref` exactly where judging that interval finds a fault.
 -- Assumes nothing.
 use mathlib.Core.Path.{_≡_, refl, sym, ap, _∙_}
@@ -11,7 +11,8 @@ use native.Mathlib.Omega.{arith}
 use borrow.Author.Tests.{eqb-true, eq-eqb}
 use lib.Dec.{eqb, lit<}
 use lib.ListN.{length, getD, drop, List·getD-append}
-use lib.Seq.{drop-drop, getD-append-add}
+use lib.Seq.{getD-append-add}
+use Rattle.words.proofs.Parts.{drop-more}
 use Rattle.answer.specs.declared.Answer.the-variants as answers
 use Rattle.segment.specs.declared.Description.{Description}
 use Rattle.segment.specs.Segment.{Segment, intervalsOf, lengthOf}
@@ -32,12 +33,6 @@ use Rattle.listing.proofs.ListingLaws.{lines-are}
 use Rattle.listing.proofs.States.{state-in-words}
 use Rattle.listing.proofs.Demands.{fault-interval, read-plain}
 
--- one more piece before j others
-on : (j P : ℕ) (s : List ℕ) → drop (j * P) (drop P s) ≡ drop (suc j * P) s
-on j P s =
-    let further : P + j * P ≡ suc j * P = omega (arith, suc-mul j P) in
-    drop-drop (j * P) P s ∙ ap (λ (n : ℕ). drop n s) further
-
 -- ---- the line of an interval of a block, and of k blocks; x is what a list that ends before it would give
 module _ (r : Rules) (x : Line) where
   interval-line : (skipped : Bool) (n i number : ℕ) (p : Place) (s : List ℕ) → i < n
@@ -48,7 +43,7 @@ module _ (r : Rules) (x : Line) where
   interval-line skipped (suc n) (suc i) number p s h =
       let further : number + 1 + i ≡ number + suc i = omega arith in
       interval-line skipped n i (number + 1) (nextInterval p) (drop (r .size + 8) s) (omega arith)
-      ∙ rw (further, on i (r .size + 8) s) refl
+      ∙ rw (further, drop-more (r .size + 8) i s) refl
 
   abbrev lineIn : Place → List ℕ → ℕ → Line
   lineIn p s i =
@@ -72,7 +67,7 @@ module _ (r : Rules) (x : Line) where
       ap (λ (n : ℕ). getD (linesIn r p s ++ others) n x) further
       ∙ getD-append-add (linesIn r p s) others (j * r .intervals + i) x
       ∙ block-line k j i (nextBlock (r .intervals) p) (drop P s) (omega arith) l
-      ∙ rw (on j P s) refl
+      ∙ rw (drop-more P j s) refl
 
 -- ---- of a segment
 small : (d : Description) → firstTag d (readAll d) < 2 ^ 32
@@ -110,7 +105,7 @@ module _ (d : Description) (s : List ℕ) (g : Segment d) (j i : ℕ) (within : 
   unfolding lineOf lineAt rulesOf readAll
   line-is = rw state-is refl
 
-  -- line j × n + i, whatever x stands for one that is not there: the address W + j, the interval i, its bytes and its state
+  -- line j × n + i: the address W + j, the interval i, its bytes and its state (x is what getD gives past the end)
   pub line-at : lengthOf d ≡ length s → (d .kind ≡ 0 → ⊥) → j < d .count → (x : Line)
       → getD (linesOf d s) (j * intervalsOf d + i) x ≡ lineAt d s j i
   unfolding rulesOf

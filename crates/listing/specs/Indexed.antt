@@ -1,4 +1,4 @@
--- The lines one by one, in document 01's words: what stands on line j × n + i.
+-- The interval lines one by one, in document 01's words: what stands on line j × n + i, counted from 0 behind the header.
 use Prim.Native.Nat.{ℕ, _+_, _%_, _^_}
 use mathlib.Core.Bool.{Bool, not, _&&_, cond}
 use mathlib.Core.List.{List}

@@ -2,7 +2,7 @@
 use Prim.Native.Nat.{ℕ, _+_, _*_, _/_, _%_, _^_, _≤_, _<_}
 use mathlib.Core.Bool.{Bool, _&&_, _||_, cond}
 use mathlib.Core.Path.{_≡_}
-use lib.Dec.{T, eqb, leb}
+use lib.Dec.{eqb, leb}
 use Rattle.segment.specs.declared.Description.{Description}
 
 -- "P is 0 to 3, ATO 0 or 1. B is 8 to 4,096 and a multiple of 8. e is 0 to 3, and 0 for types 0 and 1. N is 1 to 65,536.

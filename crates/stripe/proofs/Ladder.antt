@@ -1,4 +1,4 @@
--- The ladder of refusals: 1 where the description is none, then 11 where a test of the shape fails.
+-- The order of refusals: 1 where the numbers describe no segment, then 11 where a test of the shape fails.
 -- Assumes nothing.
 use mathlib.Core.Path.{_≡_, refl, sym, ap, _∙_}
 use mathlib.Core.Bool.{Bool, true, false, not, _&&_, cond}

@@ -12,6 +12,7 @@ use lib.ListN.{length, take, drop, replicate, length-drop, length-replicate, len
 use lib.Seq.{drop-drop, take-take, take-all, take-at, drop-at, length-take-le}
 use Rattle.words.specs.Parts.{put}
 use Rattle.words.specs.Xor.{xors}
+use Rattle.words.proofs.Parts.{drop-more}
 use Rattle.words.proofs.Xor.{xors-length, xors-assoc, xors-comm, xors-self, xors-zero, xors-cancel}
 use Rattle.stripe.specs.Stripe.{part, xorParts, parityOf, rebuiltOf}
 
@@ -65,9 +66,6 @@ part-before long j k s h = part-of-take (j * long) long (k * long) s (ends long 
 pub part-first : (long : ℕ) (s : List ℕ) → part long 0 s ≡ take long s
 unfolding part
 part-first long s = rw zero-mul
-
-drop-more : (long i : ℕ) (s : List ℕ) → drop (i * long) (drop long s) ≡ drop (suc i * long) s
-drop-more long i s = drop-drop (i * long) long s ∙ (let on : long + i * long ≡ suc i * long = omega (arith, suc-mul i long) in ap (λ (n : ℕ). drop n s) on)
 
 pub part-next : (long j : ℕ) (s : List ℕ) → part long j (drop long s) ≡ part long (suc j) s
 unfolding part

@@ -1,17 +1,17 @@
 -- What was written is judged good when it is read: inserted fields are right ones, and fields that a WRITE found right stay right.
 -- Assumes nothing.
 use mathlib.Core.Path.{_≡_, refl, sym, ap, ap₂, _∙_}
-use mathlib.Core.Bool.{Bool, true, false, not, _&&_, _||_, cond}
+use mathlib.Core.Bool.{Bool, true, false, _&&_, _||_, cond}
 use mathlib.Core.List.{List, [], _++_, append-assoc, append-nil}
 use Prim.Native.Nat.{ℕ, zero, suc, _+_, _*_, _%_, _^_, _<_, _≤_}
 use native.Mathlib.Nat.{suc-mul, mod-lt, mul-one}
 use native.Mathlib.Omega.{arith}
-use borrow.Author.Tests.{eq-eqb, eqb-true}
+use borrow.Author.Tests.{eqb-true}
 use lib.Bits.{bitAnd}
 use lib.Dec.{eqb, lit<}
 use lib.ListN.{length, take, drop, length-drop}
 use lib.Seq.{take-at, drop-at}
-use Rattle.words.proofs.Choice.{never}
+use Rattle.words.proofs.Choice.{never, unwrong}
 use Rattle.words.specs.Runs.{runs}
 use Rattle.answer.specs.declared.Answer.{Answer}
 use Rattle.answer.specs.declared.Answer.the-variants as answers
@@ -51,10 +51,6 @@ module _ {M : Type 0} (judge : Place → List ℕ → Answer) (next : Place → 
       (runs-right k (next p) (on m) (drop P s) rest (go p m f) less)
 
 -- ---- fields that were inserted
-unwrong : (on : Bool) (x y : ℕ) → (on ≡ true → x ≡ y) → on && not (eqb x y) ≡ false
-unwrong true x y f = rw (eq-eqb x y (f refl))
-unwrong false x y f = refl
-
 -- the marks are the ones expected there
 record Fit (r : Rules) (p : Place) (m : Marks) : Type 0 where
   application : r .application ≡ true → m .application ≡ r .expected

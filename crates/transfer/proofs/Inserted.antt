@@ -10,7 +10,7 @@ use native.Mathlib.Omega.{arith}
 use borrow.Author.Tests.{eqb-true, eqb-false}
 use lib.Dec.{eqb, lit<}
 use lib.ListN.{length, take, drop, length-drop}
-use lib.Seq.{take-at, drop-at, drop-drop}
+use lib.Seq.{take-at, drop-at}
 use Rattle.words.specs.Parts.{Bytes}
 use Rattle.words.specs.Runs.{runs}
 use Rattle.guard.specs.Guard.{guard}
@@ -29,7 +29,8 @@ use Rattle.judge.proofs.FirstLaws.{after}
 use Rattle.blocks.specs.declared.Marks.{Marks}
 use Rattle.blocks.specs.Blocks.{fieldBytes, withField, later, storedBlock, storedBlocks}
 use Rattle.blocks.proofs.Laws.{field-length, interval-length, block-length, interval-read-on, interval-field-on, guard-there, application-there, reference-there}
-use Rattle.blocks.proofs.Pieces.{one-within, rest-within, one-more}
+use Rattle.blocks.proofs.Pieces.{one-within, rest-within}
+use Rattle.words.proofs.Parts.{one-more, drop-more}
 use Rattle.checks.specs.Checks.{firstTag}
 use Rattle.checks.specs.Inserted.{insertedReference, marksOf}
 use Rattle.checks.specs.Intervals.{intervalAt}
@@ -60,9 +61,8 @@ module _ {M : Type 0} (piece : M → List ℕ → List ℕ) (next : M → M) (P 
       let past : drop Q ((piece m s ++ others) ++ rest) ≡ others ++ rest =
       ap (drop Q) (append-assoc (piece m s) others rest) ∙ drop-at (piece m s) (others ++ rest) Q (long m s (one-within k P (length s) l)) in (
         found .0,
-        ap (λ (n : ℕ). drop n ((piece m s ++ others) ++ rest)) (one-more j Q)
-            ∙ sym (drop-drop (j * Q) Q ((piece m s ++ others) ++ rest)) ∙ ap (drop (j * Q)) past ∙ found .1
-            ∙ ap (λ (l : List ℕ). piece (after next j (next m)) l ++ found .0) (drop-drop (j * P) P s ∙ ap (λ (n : ℕ). drop n s) (sym (one-more j P))),
+        sym (drop-more Q j ((piece m s ++ others) ++ rest)) ∙ ap (drop (j * Q)) past ∙ found .1
+            ∙ ap (λ (l : List ℕ). piece (after next j (next m)) l ++ found .0) (drop-more P j s),
       )
 
 -- ---- the marks there

@@ -1,12 +1,11 @@
 // Runs the vectors and the cases of document 01, 'Both sides of the line', and prints what comes of each.
-ghost use Prim.Native.Nat.{_≤_};
-ghost use lib.ListN.{length};
 use answer::Answer;
 use segment::Description;
 
 fn main() {
     guards();
     reads();
+    reads_at_the_ends();
     refusals();
     writes();
     parity();
@@ -60,6 +59,10 @@ fn reads() {
         b"\x28\x80\x00\x00\x00\x07\x00\x00\x02\x00",
         &mut [0; 32],
     );
+}
+
+// Cases of READ on M, at its last block and past its ends.
+fn reads_at_the_ends() {
     on_m(
         b"READ (10) at 9, T 1, code 001",
         b"\x28\x20\x00\x00\x00\x09\x00\x00\x01\x00",

@@ -15,7 +15,7 @@ use Rattle.words.specs.BigEndian.{numberFrom, number, numberAt, bytes}
 use borrow.Rule.Slice.PartMut.{midOf, putMid}
 use Rattle.words.specs.Parts.{Bytes, put}
 use Rattle.words.specs.Xor.{xors}
-use Rattle.words.proofs.Parts.{drop-next, part-bytes, put-back}
+use Rattle.words.proofs.Parts.{drop-next, part-at, part-bytes, put-back}
 
 -- ---- reading
 
@@ -96,7 +96,7 @@ part-length at w s h = simp (length-take, length-drop) (omega arith)
 
 pub read-at : (at w r : ℕ) (s : List ℕ) → r ≡ number (take (at + w - at) (drop at s)) → r ≡ numberAt at w s
 unfolding numberAt
-read-at at w r s e = e ∙ ap (λ (k : ℕ). number (take k (drop at s))) (let same : at + w - at ≡ w = omega arith in same)
+read-at at w r s e = e ∙ ap number (part-at at w s)
 
 pub read-at-lt : (at w r : ℕ) (s : List ℕ) → at + w ≤ length s → Bytes s → r ≡ number (take (at + w - at) (drop at s)) → r < 256 ^ w
 read-at-lt at w r s h p e =

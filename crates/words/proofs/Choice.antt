@@ -2,8 +2,10 @@
 -- Assumes nothing.
 use mathlib.Core.Path.{_≡_, refl}
 use mathlib.Core.Logic.{_↔_}
-use mathlib.Core.Bool.{Bool, true, false, _&&_, _||_, cond, true≢false, false≢true}
-use lib.Dec.{T}
+use mathlib.Core.Bool.{Bool, true, false, not, _&&_, _||_, cond, true≢false, false≢true}
+use Prim.Native.Nat.{ℕ}
+use borrow.Author.Tests.{eq-eqb}
+use lib.Dec.{T, eqb}
 
 pub never : {A : Type 0} → false ≡ true → A
 never e = absurd (false≢true e)
@@ -11,6 +13,11 @@ never e = absurd (false≢true e)
 pub or-none : (a b : Bool) → (a || b ≡ false) ↔ ((a ≡ false) × (b ≡ false))
 or-none true b = (λ e. (e, absurd (true≢false e)), λ two. two .0)
 or-none false b = (λ e. (refl, e), λ two. two .1)
+
+-- a test that is only made where `on`, of numbers that are the same there
+pub unwrong : (on : Bool) (x y : ℕ) → (on ≡ true → x ≡ y) → on && not (eqb x y) ≡ false
+unwrong true x y f = rw (eq-eqb x y (f refl))
+unwrong false x y f = refl
 
 pub and-true : (a b : Bool) → T a → T b → T (a && b)
 and-true true b p q = q

@@ -1,14 +1,14 @@
 -- Laws on parts of lists: what a loop that goes through a list from the front needs, and what was put at a place.
 -- Assumes nothing.
-use mathlib.Core.Path.{_≡_, sym, _∙_}
+use mathlib.Core.Path.{_≡_, sym, ap, _∙_}
 use mathlib.Core.List.{List, [], _∷_, _++_, append-nil, append-assoc}
-use Prim.Native.Nat.{ℕ, zero, suc, _+_, _-_, _<_, _≤_}
-use native.Mathlib.Nat.{add-sub-cancel-left}
+use Prim.Native.Nat.{ℕ, zero, suc, _+_, _-_, _*_, _<_, _≤_}
+use native.Mathlib.Nat.{add-comm, add-sub-cancel-left, suc-mul}
 use native.Mathlib.Numerals.{add-one}
 use native.Mathlib.Omega.{arith}
 use lib.Dec.{lit<}
 use lib.ListN.{length, getD, take, drop, set, length-append, length-take, length-drop}
-use lib.Seq.{drop-cons, take-suc-set, take-all, getD-drop}
+use lib.Seq.{drop-cons, drop-drop, take-suc-set, take-all, getD-drop}
 use borrow.Rule.Slice.PartMut.{putMid, post-is}
 use Rattle.words.specs.Parts.{put, Bytes}
 
@@ -25,6 +25,13 @@ store-end d whole i h e = sym (take-all i d h) ∙ sym (append-nil (take i d)) �
 -- the part of n elements from i on, as code cuts it
 pub part-at : (i n : ℕ) (s : List ℕ) → take (i + n - i) (drop i s) ≡ take n (drop i s)
 part-at i n s = rw (add-sub-cancel-left i n)
+
+-- one piece of P elements, and k behind it
+pub one-more : (k P : ℕ) → suc k * P ≡ P + k * P
+one-more k P = suc-mul k P ∙ add-comm (k * P) P
+
+pub drop-more : (P k : ℕ) (s : List ℕ) → drop (k * P) (drop P s) ≡ drop (suc k * P) s
+drop-more P k s = drop-drop (k * P) P s ∙ ap (λ (n : ℕ). drop n s) (sym (one-more k P))
 
 pub take-bytes : (n : ℕ) (s : List ℕ) → Bytes s → Bytes (take n s)
 take-bytes zero s p i = lit< tt

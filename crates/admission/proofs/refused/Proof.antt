@@ -3,7 +3,7 @@
 use mathlib.Core.Path.{_≡_, sym, _∙_}
 use Rattle.answer.specs.Answer.{orElse}
 use Rattle.answer.specs.declared.Answer.{Answer}
-use Rattle.admission.specs.Admission.{typeRules, codeRule, checkRule, rangeRule, sizeRule, bufferRule, refusal}
+use Rattle.admission.specs.Admission.{codeRule, checkRule, rangeRule, sizeRule, bufferRule, refusal}
 use Rattle.admission.proofs.Ladder.{stops, goes-on}
 use Rattle.admission.proofs.Ready.{short}
 use borrow.Author.Needs.{needs}

@@ -1,7 +1,6 @@
 -- `answer::sense_numbered`: each arm is a row of the table.
 -- Assumes nothing.
 use mathlib.Core.Path.{_≡_}
-use mathlib.Core.Bool.{cond}
 use Prim.Native.Nat.{ℕ}
 use borrow.Author.Tests.{ne-eqb}
 use Rattle.answer.specs.Answer.{senseNumbered}
