@@ -1,14 +1,8 @@
 -- "any two permitted answers coincide": of each public function, over its contract as it stands. Whatever the arguments a are, two
 -- answers x and y that the contract permits are one, and so is each byte lent to be written, as the calls leave it in s and in t.
 -- Assumes nothing.
-use mathlib.Core.Path.{_≡_, sym, ap, _∙_}
-use denote.Ref.{now}
-use Rattle.format.specs.Fresh.{Filled}
+use mathlib.Core.Path.{_≡_, sym, _∙_}
 use Rattle.format.proofs.choose.Reads as choose-reads
-use Rattle.format.proofs.fill.Reads as fill-reads
 
 pub choose : (κs : _) (a : _) (x y : _) (s t : _) → choose-reads.Post κs a x s → choose-reads.Post κs a y t → x ≡ y
 choose κs a x y s t p q = p ∙ sym q
-
-pub fill : (κs : _) (a : _) (x y : _) (s t : _) → fill-reads.Post κs a x s → fill-reads.Post κs a y t → (x ≡ y) × (now (s .1 .0) ≡ now (t .1 .0))
-fill κs a x y s t p q = (ap (λ (o : Filled). o .answer) (p ∙ sym q), ap (λ (o : Filled). o .segment) (p ∙ sym q))

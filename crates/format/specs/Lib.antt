@@ -1,2 +1,1 @@
 pub mod Choice
-pub mod Fresh

@@ -1,11 +1,7 @@
-// The format choice, and filling a fresh segment.
+// The format choice.
 ghost use mathlib.Core.Path.{_≡_};
-ghost use Prim.Native.Nat.{_*_, _+_};
-ghost use lib.ListN.{length};
 ghost use Rattle.format.specs.Choice.{choiceOf, ranges, sentences, supports, byUsage, illegal};
-ghost use Rattle.format.specs.Fresh.{filled, filledOf, freshInterval, freshIntervals};
 use answer::Answer;
-use segment::Description;
 
 // The answer, and the type that goes with answer 0; a refusal has type 0.
 pub struct Choice {
@@ -100,48 +96,4 @@ pub fn choose(spt: u64, protect: u64, fmtpinfo: u64, usage: u64) -> Choice
         return by_sentences(spt, protect, fmtpinfo, usage);
     }
     refused(Answer::Field)
-}
-
-// Makes `d` a fresh interval of `size` data bytes: data zero, every field byte FFh.
-fn fill_interval(d: &mut [u8], size: usize)
-    requires { ⌜ size + 8 ≡ length (now d) ⌝ }
-    ensures { λ _. ⌜ now (d .exit) ≡ freshInterval size ⌝ }
-{
-    words::fill_with(d, 0);
-    words::fill_with(&mut d[size..], 0xFF);
-}
-
-// Makes `d` `count` fresh intervals.
-fn fill_intervals(d: &mut [u8], size: usize, count: usize)
-    requires { ⌜ count * (size + 8) ≡ length (now d) ⌝ }
-    ensures { λ _. ⌜ now (d .exit) ≡ freshIntervals size count ⌝ }
-{
-    let mut left = count;
-    let mut at: usize = 0;
-    while 0 < left {
-        let end = at + (size + 8);
-        fill_interval(&mut d[at..end], size);
-        at = end;
-        left -= 1;
-    }
-}
-
-// Fills the segment: data zero, every field byte FFh.
-pub fn fill(d: Description, segment: &mut [u8]) -> Answer
-    ensures { λ r. ⌜ filled r (now (segment .exit)) ≡ filledOf d (now (segment .entry)) ⌝ }
-{
-    if !segment::fit(d) {
-        return Answer::Description;
-    }
-    if segment.len() != segment::length(d) {
-        return Answer::Segment;
-    }
-    if d.kind == 0 {
-        words::fill_with(segment, 0);
-        return Answer::Good;
-    }
-    let size = segment::size(d);
-    let count = d.count as usize * segment::intervals(d);
-    fill_intervals(segment, size, count);
-    Answer::Good
 }

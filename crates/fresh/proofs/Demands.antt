@@ -28,7 +28,7 @@ use Rattle.judge.proofs.BlockLaws.{block-escaped}
 use Rattle.blocks.specs.Blocks.{stripped}
 use Rattle.checks.specs.Checks.{escapeOf, rulesOf, startOf}
 use Rattle.checks.specs.Intervals.{intervalAt, skipped}
-use Rattle.format.specs.Fresh.{freshIntervals, filledOf}
+use Rattle.filling.specs.Fresh.{freshIntervals, filledOf}
 use Rattle.admission.specs.declared.Admitted.the-variants.{Go}
 use Rattle.admission.specs.Admission.{isVerify, movedOf, bufferOf, refusal, admitted}
 use Rattle.admission.specs.Ready.{Ready}

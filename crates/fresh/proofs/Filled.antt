@@ -14,7 +14,7 @@ use Rattle.segment.specs.declared.Description.{Description}
 use Rattle.segment.specs.Segment.{isSegment, Segment, intervalsOf, sizeOf, storedOf, lengthOf}
 use Rattle.segment.proofs.Laws.{segment-facts, stored-intervals}
 use Rattle.command.specs.declared.Command.{Command}
-use Rattle.format.specs.Fresh.{freshIntervals, fresh, Filled, filled, filledOf}
+use Rattle.filling.specs.Fresh.{freshIntervals, fresh, Filled, filled, filledOf}
 use Rattle.transfer.specs.Transfer.{offsetOf, spanOf, blocksOf}
 use Rattle.fresh.proofs.Runs.{middle, run-length}
 

@@ -10,7 +10,7 @@ use lib.Seq.{drop-drop, take-at, drop-at, take-append-add}
 use Rattle.words.specs.Runs.{runs}
 use Rattle.judge.specs.Judge.{fieldOf}
 use Rattle.blocks.specs.Blocks.{stripped}
-use Rattle.format.specs.Fresh.{freshInterval, freshIntervals}
+use Rattle.filling.specs.Fresh.{freshInterval, freshIntervals}
 
 module _ (size : ℕ) where
   interval-length : length (freshInterval size) ≡ size + 8

@@ -13,8 +13,8 @@ use Rattle.answer.proofs.Demands.{good-is-zero}
 use Rattle.segment.specs.declared.Description.{Description}
 use Rattle.transfer.specs.Transfer.{executed}
 use Rattle.transfer.proofs.Demands.{refused-leaves-all}
-use Rattle.format.specs.Fresh.{filledOf}
-use Rattle.format.proofs.Demands.{fill-keeps}
+use Rattle.filling.specs.Fresh.{filledOf}
+use Rattle.filling.proofs.Demands.{fill-keeps}
 use Rattle.stripe.specs.Stripe.{makeAnswered, rebuildAnswered, correctAnswered}
 use Rattle.stripe.proofs.Demands.{make-keeps, rebuild-keeps, correct-keeps}
 use Rattle.guard.specs.Guards.{fits, filled, guards, guardsOf}

@@ -8,7 +8,7 @@ use Rattle.answer.specs.declared.Answer.{Answer}
 use Rattle.segment.specs.declared.Description.{Description}
 use Rattle.transfer.specs.Transfer.{Outcome, outcome, executed}
 use Rattle.format.specs.declared.Choice.{Choice}
-use Rattle.format.specs.Fresh.{Filled, filled, filledOf}
+use Rattle.filling.specs.Fresh.{Filled, filled, filledOf}
 use Rattle.stripe.specs.Stripe.{Striped, striped, makeAnswered, rebuildAnswered, correctAnswered}
 use Rattle.lamptassel.specs.Answers.{Executed, Chosen, FillAnswered, StripeAnswered}
 

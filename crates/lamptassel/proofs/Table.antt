@@ -9,7 +9,7 @@ use Rattle.answer.specs.declared.Answer.{Answer}
 use Rattle.answer.proofs.Demands.{in-table}
 use Rattle.transfer.specs.Transfer.{Outcome}
 use Rattle.format.specs.declared.Choice.{Choice}
-use Rattle.format.specs.Fresh.{Filled}
+use Rattle.filling.specs.Fresh.{Filled}
 use Rattle.stripe.specs.Stripe.{Striped}
 use Rattle.guard.specs.Guards.{guards}
 use Rattle.lamptassel.specs.Answers.{Executed, Chosen, FillAnswered, StripeAnswered}

@@ -6,7 +6,7 @@ use Rattle.answer.specs.Answer.{numberOf, addressOf, placeOf}
 use Rattle.segment.specs.declared.Description.{Description}
 use Rattle.transfer.specs.Transfer.{Outcome}
 use Rattle.format.specs.declared.Choice.{Choice}
-use Rattle.format.specs.Fresh.{Filled}
+use Rattle.filling.specs.Fresh.{Filled}
 use Rattle.stripe.specs.Stripe.{Striped}
 
 -- "type P, block length B, exponent e, first address W, count N and the bit ATO", in this order

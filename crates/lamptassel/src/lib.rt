@@ -4,7 +4,7 @@ ghost use Rattle.guard.specs.Guard.{guard};
 ghost use Rattle.answer.specs.Answer.{senseNumbered};
 ghost use Rattle.transfer.specs.Transfer.{executed};
 ghost use Rattle.format.specs.Choice.{choiceOf};
-ghost use Rattle.format.specs.Fresh.{filledOf};
+ghost use Rattle.filling.specs.Fresh.{filledOf};
 ghost use Rattle.stripe.specs.Stripe.{makeAnswered, rebuildAnswered, correctAnswered};
 ghost use Rattle.listing.specs.Listing.{Listed};
 ghost use Rattle.lamptassel.specs.Answers.{described, Executed, Chosen, FillAnswered, StripeAnswered};
@@ -80,7 +80,7 @@ pub extern "C" fn lamptassel_fill(
     ensures { λ r. ⌜ FillAnswered (filledOf (described kind block exponent first count ato) (now (segment .entry))) r (now (segment .exit)) ⌝ }
 {
     let d = described(kind, block, exponent, first, count, ato);
-    answer::number(format::fill(d, segment))
+    answer::number(filling::fill(d, segment))
 }
 
 // Makes the parity of `k` members in `out`.

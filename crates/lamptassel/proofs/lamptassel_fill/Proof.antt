@@ -1,4 +1,4 @@
--- `lamptassel::lamptassel_fill`: the number of `format::fill`'s answer.
+-- `lamptassel::lamptassel_fill`: the number of `filling::fill`'s answer.
 -- Assumes nothing.
 use borrow.Author.Needs.{needs}
 use Rattle.lamptassel.proofs.lamptassel_fill.Statement.{statement}

@@ -1,4 +1,4 @@
--- `format::fill_interval`: zeros throughout, and then FFh in the last eight places.
+-- `filling::fill_interval`: zeros throughout, and then FFh in the last eight places.
 -- Assumes nothing.
 use mathlib.Core.Path.{_≡_, sym, ap, ap₂, _∙_}
 use mathlib.Core.List.{List, [], _++_, append-nil}
@@ -7,10 +7,10 @@ use native.Mathlib.Omega.{arith}
 use borrow.Rule.Slice.PartMut.{midOf, putMid}
 use lib.ListN.{length, take, drop, replicate, length-replicate, length-take, length-drop, replicate-append-replicate, drop-of-length-le}
 use lib.Seq.{take-at}
-use Rattle.format.specs.Fresh.{freshInterval}
+use Rattle.filling.specs.Fresh.{freshInterval}
 use borrow.Author.Needs.{needs}
-use Rattle.format.proofs.fill_interval.Statement.{statement}
-use Rattle.format.proofs.fill_interval.Tie as tie
+use Rattle.filling.proofs.fill_interval.Statement.{statement}
+use Rattle.filling.proofs.fill_interval.Tie as tie
 
 zeros : (a b : ℕ) → take {A = ℕ} a (replicate (a + b) 0) ≡ replicate a 0
 zeros a b =

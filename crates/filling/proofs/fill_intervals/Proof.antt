@@ -1,4 +1,4 @@
--- `format::fill_intervals`: the fresh intervals that stand, and those that are left, make up all of them.
+-- `filling::fill_intervals`: the fresh intervals that stand, and those that are left, make up all of them.
 -- Assumes nothing.
 use mathlib.Core.Path.{_≡_, refl, sym, ap, _∙_}
 use mathlib.Core.List.{List, [], _++_}
@@ -12,10 +12,10 @@ use Rattle.words.specs.Runs.{runs}
 use Rattle.words.proofs.BigEndian.{part-length}
 use Rattle.words.proofs.Parts.{put-length, put-back}
 use Rattle.words.proofs.Runs.{peel-within, peel-rest, peel-end, fill-next, fill-end}
-use Rattle.format.specs.Fresh.{freshInterval, freshIntervals}
+use Rattle.filling.specs.Fresh.{freshInterval, freshIntervals}
 use borrow.Author.Needs.{needs}
-use Rattle.format.proofs.fill_intervals.Statement.{statement}
-use Rattle.format.proofs.fill_intervals.Tie as tie
+use Rattle.filling.proofs.fill_intervals.Statement.{statement}
+use Rattle.filling.proofs.fill_intervals.Tie as tie
 
 abbrev piece : ℕ → ℕ → List ℕ → List ℕ
 piece size t l = freshInterval size

@@ -1,4 +1,4 @@
--- `format::fill`: each refusal denies a fact, and a segment that is filled is fresh, with fields or without.
+-- `filling::fill`: each refusal denies a fact, and a segment that is filled is fresh, with fields or without.
 -- Assumes nothing.
 use mathlib.Core.Path.{_≡_, sym, ap, _∙_}
 use mathlib.Core.Bool.{false}
@@ -12,10 +12,10 @@ use Rattle.answer.specs.declared.Answer.the-variants as answers
 use Rattle.segment.specs.declared.Description.{Description}
 use Rattle.segment.specs.Segment.{isSegment, Segment, intervalsOf, sizeOf, lengthOf}
 use Rattle.segment.proofs.Laws.{described, undescribed, is-segment, sizes, stored-intervals}
-use Rattle.format.specs.Fresh.{filled, filledOf, fresh, freshIntervals}
+use Rattle.filling.specs.Fresh.{filled, filledOf, fresh, freshIntervals}
 use borrow.Author.Needs.{needs}
-use Rattle.format.proofs.fill.Statement.{statement}
-use Rattle.format.proofs.fill.Tie as tie
+use Rattle.filling.proofs.fill.Statement.{statement}
+use Rattle.filling.proofs.fill.Tie as tie
 
 refused : (d : Description) (s : List ℕ) → isSegment d ≡ false → filled answers.Description s ≡ filledOf d s
 unfolding filledOf
