@@ -16,7 +16,8 @@ use Rattle.admission.specs.Admission.{typeRules, codeRule, checkRule, rangeRule
 use Rattle.checks.specs.Checks.{columnsOf, applicationKnown, referenceKnown, firstTag, rulesOf, startOf}
 use Rattle.checks.specs.Inserted.{insertedApplication, insertedReference, marksOf}
 use Rattle.transfer.specs.Transfer.{offsetOf, spanOf, blocksOf, whole, judgedIn, judged, handed, received, overwritten, performed, executed}
-use Rattle.stripe.specs.Stripe.{xorParts, parityOf, stripedOf, members, makeAnswered}
+use Rattle.parity.specs.Parity.{xorParts, parityOf}
+use Rattle.stripe.specs.Stripe.{stripedOf, members, makeAnswered}
 use Rattle.cases.specs.Cases.{result, expected, vectors, up, down, parityCase, onSegments, cases}
 
 pub starred : map result cases ≡ map expected cases

@@ -24,10 +24,11 @@ use Rattle.answer.specs.declared.Answer.the-variants as answers
 use Rattle.segment.specs.declared.Description.{Description}
 use Rattle.segment.specs.Segment.{Segment, isSegment, intervalsOf, sizeOf, storedOf, lengthOf}
 use Rattle.segment.proofs.Laws.{stored-intervals}
-use Rattle.stripe.specs.Stripe.{part, parityOf, rebuiltOf, correctedOf, Striped, striped, stripedOf, makeAnswered, rebuildAnswered, correctAnswered}
+use Rattle.parity.specs.Parity.{part, parityOf, rebuiltOf, correctedOf}
+use Rattle.parity.proofs.Sums.{by-side, member-part, parity-part, any-part, all-but-one, others-only, parityOf-length, rebuiltOf-length, ends, part-length, put-part, put-other}
+use Rattle.stripe.specs.Stripe.{Striped, striped, stripedOf, makeAnswered, rebuildAnswered, correctAnswered}
 use Rattle.stripe.specs.Fit.{Making, Rebuilding, Correcting}
 use Rattle.stripe.specs.Error.{errorAt, memberError, beginOf, errorIn, xorOver}
-use Rattle.stripe.proofs.Sums.{by-side, member-part, parity-part, any-part, all-but-one, others-only, parityOf-length, rebuiltOf-length, ends, part-length, put-part, put-other}
 use Rattle.stripe.proofs.Ladder.{same}
 use Rattle.stripe.proofs.Fits.{not-zero, make-is, make-only, rebuild-is, rebuild-only, correct-is, correct-only}
 use Rattle.stripe.proofs.Errors.{error-xors, over-zero, over-one, of-parity}

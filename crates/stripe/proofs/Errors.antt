@@ -19,9 +19,9 @@ use Rattle.words.proofs.Xor.{xors-take, xors-drop, xors-self, xors-length, xors
 use Rattle.guard.specs.Guard.{guard}
 use Rattle.guard.proofs.Laws.{guard-xors}
 use Rattle.judge.specs.Judge.{dataOf, fieldOf, storedGuard}
-use Rattle.stripe.specs.Stripe.{part, xorParts, parityOf}
+use Rattle.parity.specs.Parity.{part, xorParts, parityOf}
+use Rattle.parity.proofs.Sums.{part-first, part-next}
 use Rattle.stripe.specs.Error.{errorAt, xorOver}
-use Rattle.stripe.proofs.Sums.{part-first, part-next}
 
 -- ---- lists of bytes
 zeros-bytes : (n : ℕ) → Bytes (replicate n 0)

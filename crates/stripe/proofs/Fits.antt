@@ -12,9 +12,10 @@ use Rattle.words.specs.Xor.{xors}
 use Rattle.answer.specs.declared.Answer.the-variants as answers
 use Rattle.segment.specs.declared.Description.{Description}
 use Rattle.segment.specs.Segment.{Segment, isSegment, lengthOf}
-use Rattle.stripe.specs.Stripe.{xorParts, parityOf, rebuiltOf, correctedOf, striped, members, makeAnswered, rebuildAnswered, correctAnswered}
+use Rattle.parity.specs.Parity.{xorParts, parityOf, rebuiltOf, correctedOf}
+use Rattle.parity.specs.Stretch.{joined}
+use Rattle.stripe.specs.Stripe.{striped, members, makeAnswered, rebuildAnswered, correctAnswered}
 use Rattle.stripe.specs.Fit.{Making, Rebuilding, Correcting}
-use Rattle.stripe.specs.Stretch.{joined}
 use Rattle.stripe.proofs.Ladder.{is-one, members-facts, members-true, same, not-one, no-shape, good-is, good-only}
 
 some-type : (n : ℕ) → (n ≡ 0 → ⊥) → 1 ≤ n

@@ -1,5 +1,3 @@
-pub mod Sums
-pub mod Stretches
 pub mod Ladder
 pub mod Fits
 pub mod Errors

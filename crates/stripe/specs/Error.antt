@@ -7,7 +7,7 @@ use Rattle.guard.specs.Guard.{guard}
 use Rattle.judge.specs.Judge.{dataOf, fieldOf, storedGuard}
 use Rattle.segment.specs.declared.Description.{Description}
 use Rattle.segment.specs.Segment.{intervalsOf, sizeOf}
-use Rattle.stripe.specs.Stripe.{part}
+use Rattle.parity.specs.Parity.{part}
 
 -- of the interval of `size` data bytes that stands first in the list
 unfoldable pub errorAt : ℕ → List ℕ → ℕ

@@ -1,4 +1,3 @@
 pub mod Stripe
 pub mod Fit
-pub mod Stretch
 pub mod Error

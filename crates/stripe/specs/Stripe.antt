@@ -1,37 +1,15 @@
 -- "k is 1 to 16 members, laid end to end, each N × S bytes of one description of type 1 to 3. Parity is their exclusive or,
 -- fields included."
-use Prim.Native.Nat.{ℕ, zero, suc, _+_, _-_, _*_}
+use Prim.Native.Nat.{ℕ, _+_, _*_}
 use mathlib.Core.Bool.{Bool, not, _&&_, cond}
 use mathlib.Core.List.{List}
 use lib.Dec.{eqb, leb}
-use lib.ListN.{length, take, drop, replicate}
-use Rattle.words.specs.Xor.{xors}
+use lib.ListN.{length}
 use Rattle.answer.specs.declared.Answer.{Answer}
 use Rattle.answer.specs.declared.Answer.the-variants as answers
 use Rattle.segment.specs.declared.Description.{Description}
 use Rattle.segment.specs.Segment.{isSegment, lengthOf}
-
--- part j of parts of `long` bytes, laid end to end
-unfoldable pub part : ℕ → ℕ → List ℕ → List ℕ
-part long j s = take long (drop (j * long) s)
-
--- the exclusive or of k parts of `long` bytes with what stands already
-unfoldable pub xorParts : ℕ → ℕ → List ℕ → List ℕ → List ℕ
-xorParts long zero out s = out
-xorParts long (suc k) out s = xorParts long k (xors out (take long s)) (drop long s)
-
--- "Parity is their exclusive or"
-unfoldable pub parityOf : ℕ → ℕ → List ℕ → List ℕ
-parityOf long k s = xorParts long k (replicate long 0) s
-
--- "Rebuilding takes k + 1 parts, parity last, and the number of the lost one (0 to k; its own bytes are not used)": the
--- exclusive or of those before it and those after it
-unfoldable pub rebuiltOf : ℕ → ℕ → ℕ → List ℕ → List ℕ
-rebuiltOf long k lost s = xorParts long (k - lost) (parityOf long lost s) (drop ((lost + 1) * long) s)
-
--- "Correcting takes one member's old and new bytes and changes the parity lent with them"
-unfoldable pub correctedOf : List ℕ → List ℕ → List ℕ → List ℕ
-correctedOf old new parity = xors (xors parity old) new
+use Rattle.parity.specs.Parity.{parityOf, rebuiltOf, correctedOf}
 
 pub record Striped : Type 0 where
   pub answer : Answer

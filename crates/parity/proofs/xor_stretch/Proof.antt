@@ -1,4 +1,4 @@
--- `stripe::xor_stretch`: what stands, with the parts that are left, gives what all parts give; two parts are two turns of one.
+-- `parity::xor_stretch`: what stands, with the parts that are left, gives what all parts give; two parts are two turns of one.
 -- Assumes nothing.
 use mathlib.Core.Path.{_≡_, refl, sym, ap, _∙_}
 use mathlib.Core.List.{List}
@@ -10,10 +10,10 @@ use lib.Seq.{drop-drop}
 use Rattle.words.specs.Xor.{xors}
 use Rattle.words.proofs.Xor.{xors-length}
 use Rattle.words.proofs.Runs.{peel-within, peel-rest}
-use Rattle.stripe.specs.Stretch.{strided}
+use Rattle.parity.specs.Stretch.{strided}
 use borrow.Author.Needs.{needs}
-use Rattle.stripe.proofs.xor_stretch.Statement.{statement}
-use Rattle.stripe.proofs.xor_stretch.Tie as tie
+use Rattle.parity.proofs.xor_stretch.Statement.{statement}
+use Rattle.parity.proofs.xor_stretch.Tie as tie
 
 record Going (piece₀ parts : List ℕ) (at long count : ℕ) (piece : List ℕ) (left i : ℕ) : Type 0 where
   kept : length piece ≡ length piece₀

@@ -3,7 +3,7 @@ use Prim.Native.Nat.{ℕ, zero, suc}
 use mathlib.Core.List.{List}
 use lib.ListN.{take, drop}
 use Rattle.words.specs.Xor.{xors}
-use Rattle.stripe.specs.Stripe.{xorParts, parityOf}
+use Rattle.parity.specs.Parity.{xorParts, parityOf}
 
 -- what stands, with the exclusive or of the first n bytes of each of k parts that begin `long` bytes apart
 unfoldable pub strided : ℕ → ℕ → ℕ → List ℕ → List ℕ → List ℕ

@@ -1,9 +1,9 @@
--- `stripe::join_stretch`: each of its three calls does what the stretch's definition says.
+-- `parity::join_stretch`: each of its three calls does what the stretch's definition says.
 -- Assumes nothing.
-use Rattle.stripe.proofs.Stretches.{stretch-of-joined}
+use Rattle.parity.proofs.Stretches.{stretch-of-joined}
 use borrow.Author.Needs.{needs}
-use Rattle.stripe.proofs.join_stretch.Statement.{statement}
-use Rattle.stripe.proofs.join_stretch.Tie as tie
+use Rattle.parity.proofs.join_stretch.Statement.{statement}
+use Rattle.parity.proofs.join_stretch.Tie as tie
 
 returns : tie.Need-returns
 returns c =

@@ -7,9 +7,9 @@ use native.Mathlib.Omega.{arith}
 use lib.ListN.{length, take, drop, replicate}
 use Rattle.words.specs.Xor.{xors}
 use Rattle.words.proofs.Xor.{xors-take, xors-drop}
-use Rattle.stripe.specs.Stripe.{xorParts, parityOf}
-use Rattle.stripe.specs.Stretch.{strided, joined}
-use Rattle.stripe.proofs.Sums.{xorParts-length, parityOf-length, drop-swap, part-of-take}
+use Rattle.parity.specs.Parity.{xorParts, parityOf}
+use Rattle.parity.specs.Stretch.{strided, joined}
+use Rattle.parity.proofs.Sums.{xorParts-length, parityOf-length, drop-swap, part-of-take}
 
 part-of-zeros : (at n long : ℕ) → at + n ≤ long → take n (drop at (replicate {A = ℕ} long 0)) ≡ replicate n 0
 part-of-zeros zero zero long h = refl

@@ -1,4 +1,4 @@
--- `stripe::restore`: the parts before the lost one and those after it are whole parts, and its definition takes the same.
+-- `parity::restore`: the parts before the lost one and those after it are whole parts, and its definition takes the same.
 -- Assumes nothing.
 use mathlib.Core.Path.{_≡_, sym, _∙_}
 use mathlib.Core.List.{List}
@@ -8,12 +8,12 @@ use native.Mathlib.Numerals.{add-one}
 use native.Mathlib.Omega.{arith}
 use lib.ListN.{length, take, drop, length-take, length-drop}
 use lib.Seq.{take-all, length-take-le}
-use Rattle.stripe.specs.Stripe.{parityOf, rebuiltOf}
-use Rattle.stripe.specs.Stretch.{joined}
-use Rattle.stripe.proofs.Sums.{by-parts, part-before, behind}
+use Rattle.parity.specs.Parity.{parityOf, rebuiltOf}
+use Rattle.parity.specs.Stretch.{joined}
+use Rattle.parity.proofs.Sums.{by-parts, part-before, behind}
 use borrow.Author.Needs.{needs}
-use Rattle.stripe.proofs.restore.Statement.{statement}
-use Rattle.stripe.proofs.restore.Tie as tie
+use Rattle.parity.proofs.restore.Statement.{statement}
+use Rattle.parity.proofs.restore.Tie as tie
 
 restored : (long count lost : ℕ) (s new : List ℕ) → new ≡ joined long lost (take (lost * long) s) (count - lost) (take (length s - (lost * long + long)) (drop (lost * long + long) s))
     → new ≡ rebuiltOf long count lost s

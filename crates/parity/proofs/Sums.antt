@@ -14,7 +14,7 @@ use Rattle.words.specs.Parts.{put}
 use Rattle.words.specs.Xor.{xors}
 use Rattle.words.proofs.Parts.{drop-more}
 use Rattle.words.proofs.Xor.{xors-length, xors-assoc, xors-comm, xors-self, xors-zero, xors-cancel}
-use Rattle.stripe.specs.Stripe.{part, xorParts, parityOf, rebuiltOf}
+use Rattle.parity.specs.Parity.{part, xorParts, parityOf, rebuiltOf}
 
 pub drop-swap : (m n : ℕ) (s : List ℕ) → drop m (drop n s) ≡ drop n (drop m s)
 drop-swap m n s = drop-drop m n s ∙ (let over : n + m ≡ m + n = omega arith in ap (λ (k : ℕ). drop k s) over) ∙ sym (drop-drop n m s)

@@ -1,4 +1,4 @@
--- `stripe::xor_two`: what is done, and the exclusive or of what is left, make up the whole.
+-- `parity::xor_two`: what is done, and the exclusive or of what is left, make up the whole.
 -- Assumes nothing.
 use mathlib.Core.Path.{_≡_, refl}
 use mathlib.Core.List.{List, _++_}
@@ -10,8 +10,8 @@ use lib.Seq.{drop-set-lt}
 use Rattle.words.specs.Xor.{xors}
 use Rattle.words.proofs.Parts.{store-next, store-end, drop-next}
 use borrow.Author.Needs.{needs}
-use Rattle.stripe.proofs.xor_two.Statement.{statement}
-use Rattle.stripe.proofs.xor_two.Tie as tie
+use Rattle.parity.proofs.xor_two.Statement.{statement}
+use Rattle.parity.proofs.xor_two.Tie as tie
 
 two-next : (d a b whole : List ℕ) (i v : ℕ) → i < length d → i < length a → i < length b → v ≡ bitXor (bitXor (getD d i 0) (getD a i 0)) (getD b i 0)
     → take i d ++ xors (xors (drop i d) (drop i a)) (drop i b) ≡ whole

@@ -1,4 +1,4 @@
--- `stripe::join`: what is made is as much of the whole, a stretch more with each turn.
+-- `parity::join`: what is made is as much of the whole, a stretch more with each turn.
 -- Assumes nothing.
 use mathlib.Core.Path.{_≡_, refl, sym, ap, ap₂, _∙_}
 use mathlib.Core.List.{List, _++_, append-assoc}
@@ -7,11 +7,11 @@ use native.Mathlib.Omega.{arith}
 use lib.ListN.{length, take, drop, length-append}
 use lib.Seq.{take-add, take-at, take-all, length-take-le}
 use borrow.Rule.Slice.PartMut.{putMid, midOf, mid-len, same-len-mid}
-use Rattle.stripe.specs.Stretch.{joined}
-use Rattle.stripe.proofs.Stretches.{joined-length}
+use Rattle.parity.specs.Stretch.{joined}
+use Rattle.parity.proofs.Stretches.{joined-length}
 use borrow.Author.Needs.{needs}
-use Rattle.stripe.proofs.join.Statement.{statement}
-use Rattle.stripe.proofs.join.Tie as tie
+use Rattle.parity.proofs.join.Statement.{statement}
+use Rattle.parity.proofs.join.Tie as tie
 
 record Going (whole out₀ out : List ℕ) (at : ℕ) : Type 0 where
   kept : length out ≡ length out₀
