@@ -1,4 +1,4 @@
-//! Commands with great counts, transfers, offsets and places.
+//! Commands with great counts, transfers, addresses, offsets and places.
 
 use reference::Description;
 
@@ -13,6 +13,7 @@ use crate::trial::{Held, Put};
 pub fn each(put: Put<'_>) -> Held {
     every_cut(put)?;
     every_length(put)?;
+    every_address(put)?;
     every_count(put)?;
     every_offset(put)?;
     more_than_24_bits(put)?;
@@ -175,6 +176,53 @@ pub fn every_length(put: Put<'_>) -> Held {
                 }
             }
         }
+    }
+    Ok(())
+}
+
+/// Two blocks about each power of two, and the last ones that there may be, with a
+/// fault of each kind in the second: its address is great.
+pub fn every_address(put: Put<'_>) -> Held {
+    let numbers = &mut Numbers::new(26);
+    let powers = (1..=62).flat_map(|bits| [(1 << bits) - 2, 1 << bits]);
+    let firsts: Vec<u64> = powers.chain([(1 << 63) - 4]).collect();
+    for (p, e) in SHAPES {
+        for operation in OPERATIONS {
+            for &w in &firsts {
+                let four = described(p, e, 8, 4);
+                every_size_at(&Description { w, ..four }, operation, numbers, put)?;
+            }
+        }
+    }
+    Ok(())
+}
+
+/// The segment's middle two blocks by each command that its type may have and that can
+/// hold their address.
+fn every_size_at(
+    desc: &Description,
+    operation: Operation,
+    numbers: &mut Numbers,
+    put: Put<'_>,
+) -> Held {
+    let command = at(desc, operation, 1, 2);
+    for size in SIZES {
+        let long = size == 32;
+        if long && desc.p != 2 || size < 16 && command.address >= 1 << 32 {
+            continue;
+        }
+        // Type 2 has codes other than 000 in 32 bytes alone.
+        let code = if desc.p == 2 && !long {
+            0
+        } else {
+            command.code
+        };
+        let command = Command {
+            size,
+            code,
+            ..command
+        };
+        put_with_last_wrong(&Scene::right(*desc, command, numbers), put)?;
     }
     Ok(())
 }

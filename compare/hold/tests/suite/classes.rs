@@ -243,6 +243,17 @@ fn an_address_cut() {
     }
 }
 
+#[test]
+fn a_great_address_cut() {
+    for bits in [8, 16, 31, 32, 33, 48, 62] {
+        found_by(executes::large::every_address, Function::Execute, |call| {
+            let answer = call.honest();
+            unsafe { *call.places[0] &= (1 << bits) - 1 };
+            answer
+        });
+    }
+}
+
 /// Works on the blocks at an offset that is cut to so many bits.
 fn offset_cut(call: &Passing<'_>, operation: u8, bits: u32) -> u64 {
     let Some(words) = Words::of(call.bytes(1)).filter(|words| words.operation == operation) else {
