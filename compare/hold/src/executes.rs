@@ -6,4 +6,4 @@ pub mod large;
 pub mod order;
 
 pub use any::any;
-pub use each::each;
+pub use each::{each, every_mark};

@@ -4,7 +4,10 @@ use reference::{Description, listing};
 
 use crate::call::{CUTS, Call, Function};
 use crate::numbers::Numbers;
-use crate::segment::{Intervals, SHAPES, Tags, any_good, blocks, each_bad, just_above, stretch};
+use crate::segment::{
+    BLOCK_LENGTHS, Intervals, SHAPES, Tags, any_good, blocks, each_bad, each_mark_missing,
+    just_above, stretch,
+};
 use crate::trial::{Held, Put};
 
 /// The greatest length that a record may give.
@@ -44,6 +47,7 @@ pub fn large(put: Put<'_>) -> Held {
         every_cut(&desc, &mut numbers, put)?;
         every_cut_product(&desc, put)?;
         every_total(p, e, &mut numbers, put)?;
+        every_block_length(p, e, &mut numbers, put)?;
     }
     every_great_room(&mut numbers, put)
 }
@@ -107,7 +111,7 @@ fn every_byte(desc: &Description, numbers: &mut Numbers, put: Put<'_>) -> Held {
 }
 
 /// The marks of an escape, or half of them, in each interval, beside a wrong guard
-/// in each other.
+/// in each other; and all of them but one bit.
 fn every_mark(desc: &Description, numbers: &mut Numbers, put: Put<'_>) -> Held {
     let sizes = Intervals::of(desc);
     let segment = right(desc, numbers);
@@ -123,6 +127,11 @@ fn every_mark(desc: &Description, numbers: &mut Numbers, put: Put<'_>) -> Held {
                 segment[wrong * sizes.step] ^= 1;
                 put(list_all(&whole(desc, &segment)))?;
             }
+        }
+        for marks in each_mark_missing() {
+            let mut segment = segment.clone();
+            segment[marked * sizes.step + sizes.data..][2..8].copy_from_slice(&marks);
+            put(list_all(&whole(desc, &segment)))?;
         }
     }
     Ok(())
@@ -255,6 +264,25 @@ fn every_total(p: u64, e: u64, numbers: &mut Numbers, put: Put<'_>) -> Held {
                 for interval in intervals.skip(first).take(total) {
                     spoiled.put(&mut interval[sizes.data..]);
                 }
+                put(list_all(&whole(&desc, &segment)))?;
+            }
+        }
+    }
+    Ok(())
+}
+
+/// Great blocks, and each with a wrong byte in its data: the first, the middle one, the
+/// last one.
+fn every_block_length(p: u64, e: u64, numbers: &mut Numbers, put: Put<'_>) -> Held {
+    for b in BLOCK_LENGTHS {
+        let desc = described(p, b, e, 7, 2);
+        let sizes = Intervals::of(&desc);
+        let right = right(&desc, numbers);
+        put(list_all(&whole(&desc, &right)))?;
+        for interval in 0..2 * sizes.each {
+            for at in [0, sizes.data / 2, sizes.data - 1] {
+                let mut segment = right.clone();
+                segment[interval * sizes.step + at] ^= 0x10;
                 put(list_all(&whole(&desc, &segment)))?;
             }
         }

@@ -18,6 +18,22 @@ pub const SHAPES: [(u64, u64); 10] = [
     (3, 3),
 ];
 
+/// Block lengths about the powers of two, from the least to the greatest.
+pub const BLOCK_LENGTHS: [u64; 23] = [
+    8, 16, 24, 56, 64, 72, 120, 128, 136, 248, 256, 264, 504, 512, 520, 1_016, 1_024, 1_032, 2_040,
+    2_048, 2_056, 4_088, 4_096,
+];
+
+/// The marks of an escape with each bit of theirs in turn missing, as they stand behind
+/// a guard.
+pub fn each_mark_missing() -> impl Iterator<Item = [u8; 6]> {
+    (0..48).map(|bit| {
+        let mut marks = [0xFF; 6];
+        marks[bit / 8] ^= 1 << (bit % 8);
+        marks
+    })
+}
+
 /// The tags of a run of intervals: one application tag, and reference tags that
 /// count from the first.
 #[derive(Clone, Copy, Debug)]

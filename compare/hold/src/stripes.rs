@@ -43,6 +43,7 @@ pub fn each(put: Put<'_>) -> Held {
     for (p, e) in SHAPES {
         let small = described(p, 8, e, 2);
         every_part(&small, &mut numbers, put)?;
+        every_bit_of_a_number(&small, &mut numbers, put)?;
         every_length(&small, &mut numbers, put)?;
         every_description(&small, &mut numbers, put)?;
     }
@@ -116,6 +117,27 @@ fn every_part(desc: &Description, numbers: &mut Numbers, put: Put<'_>) -> Held {
     }
     let [old, fresh, parity] = [(); 3].map(|()| numbers.bytes(part));
     put(correct(desc, &old, &fresh, &parity))
+}
+
+/// Numbers of members and of the lost part with each bit turned over, and lengths that
+/// are right for the number as it was.
+fn every_bit_of_a_number(desc: &Description, numbers: &mut Numbers, put: Put<'_>) -> Held {
+    let part = segment_length(desc);
+    let parts = numbers.bytes(17 * part);
+    let out = numbers.bytes(part);
+    for k in [1, 2, 16] {
+        let members = &parts[..k as usize * part];
+        let all = &parts[..(k as usize + 1) * part];
+        for bit in 0..64 {
+            let turned = k ^ 1 << bit;
+            put(parity(desc, turned, members, &out))?;
+            for lost in [0, k] {
+                put(rebuild(desc, turned, lost, all, &out))?;
+                put(rebuild(desc, k, lost ^ 1 << bit, all, &out))?;
+            }
+        }
+    }
+    Ok(())
 }
 
 /// Each slice at each wrong length.

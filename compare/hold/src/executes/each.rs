@@ -5,7 +5,7 @@ use reference::Description;
 use crate::command::{Command, OPERATIONS, Operation, SIZES};
 use crate::numbers::Numbers;
 use crate::scene::Scene;
-use crate::segment::{Intervals, SHAPES, one_bit_away, one_number_away};
+use crate::segment::{Intervals, SHAPES, each_mark_missing, one_bit_away, one_number_away};
 use crate::trial::{Held, Put};
 
 pub fn each(put: Put<'_>) -> Held {
@@ -18,6 +18,7 @@ pub fn each(put: Put<'_>) -> Held {
     every_first_byte(numbers, put)?;
     every_pair_of_faults(numbers, put)?;
     every_escape(numbers, put)?;
+    every_mark(put)?;
     every_fault(numbers, put)?;
     every_transfer(numbers, put)?;
     every_address(numbers, put)
@@ -169,6 +170,30 @@ fn every_escape(numbers: &mut Numbers, put: Put<'_>) -> Held {
                         put(scene.call())?;
                     }
                 }
+            }
+        }
+    }
+    Ok(())
+}
+
+/// The marks of an escape without one bit, beside a wrong guard, in each interval of
+/// the transfer.
+pub fn every_mark(put: Put<'_>) -> Held {
+    let numbers = &mut Numbers::new(27);
+    for (desc, command) in served() {
+        let size = if desc.p == 2 { 32 } else { 16 };
+        if desc.p == 0 || command.size != size || command.code > 1 {
+            continue;
+        }
+        let scene = Scene::right(desc, command, numbers);
+        let sizes = Intervals::of(&desc);
+        for place in 0..2 * sizes.each {
+            let fields = scene.interval(place) + sizes.data;
+            for marks in each_mark_missing() {
+                let mut scene = scene.clone();
+                scene.judged()[fields] ^= 1;
+                scene.judged()[fields + 2..][..6].copy_from_slice(&marks);
+                put(scene.call())?;
             }
         }
     }

@@ -1,4 +1,4 @@
-//! Commands with great counts, transfers, addresses, offsets and places.
+//! Commands with great blocks, counts, transfers, addresses, offsets and places.
 
 use reference::Description;
 
@@ -7,12 +7,13 @@ use crate::command::{Command, OPERATIONS, Operation, SIZES};
 use crate::executes::each::middle;
 use crate::numbers::Numbers;
 use crate::scene::{Scene, buffer_length};
-use crate::segment::{Intervals, SHAPES, just_above, segment_length};
+use crate::segment::{BLOCK_LENGTHS, Intervals, SHAPES, just_above, segment_length};
 use crate::trial::{Held, Put};
 
 pub fn each(put: Put<'_>) -> Held {
     every_cut(put)?;
     every_length(put)?;
+    every_block_length(put)?;
     every_address(put)?;
     every_count(put)?;
     every_offset(put)?;
@@ -173,6 +174,29 @@ pub fn every_length(put: Put<'_>) -> Held {
                         ..command
                     };
                     put(Scene::right(desc, command, numbers).into_call())?;
+                }
+            }
+        }
+    }
+    Ok(())
+}
+
+/// Great blocks with a fault of each kind in the second of two: in the first byte of
+/// its last interval, the middle one, the last one, and in each field.
+pub fn every_block_length(put: Put<'_>) -> Held {
+    let numbers = &mut Numbers::new(28);
+    for (p, e) in SHAPES {
+        for operation in OPERATIONS {
+            for b in BLOCK_LENGTHS {
+                let desc = described(p, e, b, 3);
+                let scene = Scene::right(desc, at(&desc, operation, 1, 2), numbers);
+                put_with_last_wrong(&scene, put)?;
+                let sizes = Intervals::of(&desc);
+                let interval = scene.interval(2 * sizes.each - 1);
+                for at in [0, sizes.data / 2, sizes.data - 1] {
+                    let mut scene = scene.clone();
+                    scene.judged()[interval + at] ^= 0x10;
+                    put(scene.into_call())?;
                 }
             }
         }

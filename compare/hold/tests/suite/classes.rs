@@ -78,6 +78,23 @@ fn a_stripe_refused_with_11_before_1() {
     }
 }
 
+#[test]
+fn a_number_of_members_cut() {
+    for function in [Function::Parity, Function::Rebuild] {
+        for bits in [5, 8, 16, 32, 63] {
+            found_by(stripes::each, function, |call| {
+                let k = call.numbers[6] % (1 << bits);
+                let parts = k + u64::from(function == Function::Rebuild);
+                let fits = call.lent[0].length as u64 == parts * call.lent[1].length as u64;
+                match call.honest() {
+                    11 if (1..=16).contains(&k) && fits => 0,
+                    answer => answer,
+                }
+            });
+        }
+    }
+}
+
 /// The number that a listing refuses with, 0 for a listing.
 fn refusal(input: &[u8]) -> u64 {
     let text = String::from_utf8(reference::listing(input)).expect("letters");
@@ -251,6 +268,52 @@ fn a_great_address_cut() {
             unsafe { *call.places[0] &= (1 << bits) - 1 };
             answer
         });
+    }
+}
+
+#[test]
+fn a_fault_of_great_blocks_passed_over() {
+    for bits in 4..=12 {
+        let part = executes::large::every_block_length;
+        found_by(part, Function::Execute, |call| match call.honest() {
+            8..=10 if call.numbers[1] >> bits > 0 => 0,
+            answer => answer,
+        });
+        found_by(listings::large, Function::List, |call| {
+            let input = call.bytes(0);
+            let b = input
+                .get(7..9)
+                .map_or(0, |b| u16::from_be_bytes([b[0], b[1]]));
+            let text = String::from_utf8(reference::listing(input)).expect("letters");
+            if b >> bits == 0 || refusal(input) != 0 {
+                return call.honest();
+            }
+            print(call, text.replace(" guard\n", " ok\n").as_bytes())
+        });
+    }
+}
+
+/// The segment with one bit of each interval's marks of an escape taken as set.
+fn marked(call: &Passing<'_>, bit: usize) -> Vec<u8> {
+    let [b, n] = [call.numbers[1], 1 << call.numbers[2]].map(|number| number as usize);
+    let mut segment = call.bytes(0).to_vec();
+    for interval in segment.chunks_exact_mut(b / n + 8) {
+        interval[b / n + 2 + bit / 8] |= 1 << (bit % 8);
+    }
+    segment
+}
+
+#[test]
+fn a_part_of_the_marks_taken_for_an_escape() {
+    for (p, bits) in [(1, 16), (2, 16), (3, 48)] {
+        for bit in 0..bits {
+            found_by(executes::every_mark, Function::Execute, |call| {
+                if call.numbers[0] == p && matches!(call.honest(), 8..=10) {
+                    return call.honest_with_bytes(0, &mut marked(call, bit));
+                }
+                call.honest()
+            });
+        }
     }
 }
 
