@@ -257,7 +257,7 @@ fn every_total(p: u64, e: u64, numbers: &mut Numbers, put: Put<'_>) -> Held {
             continue;
         }
         let rest = (count * sizes.each).saturating_sub(total);
-        for spoiled in [Spoiled::Guard, Spoiled::Reference, Spoiled::Escape] {
+        for spoiled in SPOILED {
             for first in [0, rest] {
                 let mut segment = right.clone();
                 let intervals = segment.chunks_exact_mut(sizes.step);
@@ -271,8 +271,8 @@ fn every_total(p: u64, e: u64, numbers: &mut Numbers, put: Put<'_>) -> Held {
     Ok(())
 }
 
-/// Great blocks, and each with a wrong byte in its data: the first, the middle one, the
-/// last one.
+/// Great blocks, and each with a wrong byte in an interval's data, the first, the middle
+/// one or the last one, and with each thing that may be the matter with its fields.
 fn every_block_length(p: u64, e: u64, numbers: &mut Numbers, put: Put<'_>) -> Held {
     for b in BLOCK_LENGTHS {
         let desc = described(p, b, e, 7, 2);
@@ -283,6 +283,11 @@ fn every_block_length(p: u64, e: u64, numbers: &mut Numbers, put: Put<'_>) -> He
             for at in [0, sizes.data / 2, sizes.data - 1] {
                 let mut segment = right.clone();
                 segment[interval * sizes.step + at] ^= 0x10;
+                put(list_all(&whole(&desc, &segment)))?;
+            }
+            for spoiled in SPOILED.into_iter().filter(|_| p != 0) {
+                let mut segment = right.clone();
+                spoiled.put(&mut segment[interval * sizes.step..][sizes.data..sizes.step]);
                 put(list_all(&whole(&desc, &segment)))?;
             }
         }
@@ -297,6 +302,8 @@ enum Spoiled {
     Reference,
     Escape,
 }
+
+const SPOILED: [Spoiled; 3] = [Spoiled::Guard, Spoiled::Reference, Spoiled::Escape];
 
 impl Spoiled {
     fn put(self, fields: &mut [u8]) {
