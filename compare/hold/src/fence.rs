@@ -130,7 +130,7 @@ pub struct Rooms(Vec<Room>);
 
 impl Rooms {
     /// The greatest room that is kept.
-    const KEPT: usize = 1 << 25;
+    const KEPT: usize = 1 << 29;
 
     /// Puts each slice of a call into a room.
     pub fn put(&mut self, call: &Call, way: Way) -> &mut [Room] {

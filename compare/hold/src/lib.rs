@@ -13,6 +13,7 @@ pub mod numbers;
 pub mod options;
 mod pages;
 pub mod report;
+pub mod runs;
 mod scene;
 mod segment;
 pub mod stripes;

@@ -10,8 +10,7 @@ use std::io::{self, ErrorKind, Write};
 use std::process::ExitCode;
 
 use hold::options::{Options, USAGE};
-use hold::trial::{Held, Trial};
-use hold::watch;
+use hold::runs::{self, Parted};
 use linked::Archive;
 
 fn main() -> ExitCode {
@@ -38,29 +37,30 @@ fn main() -> ExitCode {
 /// Runs the trial and prints what came of it; whether all agree and each answer
 /// was reached.
 fn hold(options: &Options, out: &mut impl Write) -> io::Result<bool> {
-    watch::install(options.seed);
-    let mut trial = Trial::new(&Archive);
-    if let Err(difference) = run(&mut trial, options) {
-        let (seed, number) = (options.seed, trial.tally.inputs());
-        writeln!(
-            out,
-            "seed {seed}, input {number} from 0: archive and reference part"
-        )?;
-        writeln!(out, "{difference}")?;
-        return Ok(false);
-    }
-    writeln!(out, "{}", trial.tally)?;
+    let runs = runs::all(options.seed, options.count);
+    let tally = match runs::side_by_side(&Archive, &runs) {
+        Ok(tally) => tally,
+        Err(parted) => {
+            let Parted {
+                run,
+                number,
+                difference,
+            } = parted;
+            writeln!(
+                out,
+                "{run}, input {number} from 0: archive and reference part"
+            )?;
+            writeln!(out, "{difference}")?;
+            return Ok(false);
+        }
+    };
+    writeln!(out, "{tally}")?;
     writeln!(out, "seed {}: all agree", options.seed)?;
-    let amiss = trial.tally.amiss();
+    let amiss = tally.amiss();
     for line in &amiss {
         complain(line);
     }
     Ok(amiss.is_empty())
-}
-
-fn run(trial: &mut Trial<'_, Archive>, options: &Options) -> Held {
-    trial.systematic()?;
-    trial.random(options.seed, options.count)
 }
 
 /// A message to standard error; if that is closed there is nobody to tell.

@@ -4,7 +4,7 @@ pub const USAGE: &str = "\
 usage: hold [--seed NUMBER] [--count NUMBER]
 
 --seed NUMBER   where the random calls begin (1)
---count NUMBER  how many random calls follow the systematic ones (500000)";
+--count NUMBER  how many random calls there are beside the systematic ones (500000)";
 
 #[derive(Debug, PartialEq, Eq)]
 pub struct Options {

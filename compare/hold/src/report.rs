@@ -27,6 +27,16 @@ impl Tally {
         }
     }
 
+    /// Adds what another trial reached.
+    pub fn add(&mut self, other: &Tally) {
+        for (row, more) in self.rows.iter_mut().zip(&other.rows) {
+            row.inputs += more.inputs;
+            for (times, more) in row.answers.iter_mut().zip(more.answers) {
+                *times += more;
+            }
+        }
+    }
+
     pub fn inputs(&self) -> u64 {
         self.rows.iter().map(|row| row.inputs).sum()
     }

@@ -1,4 +1,5 @@
-//! A run of calls: the systematic part, then as many random calls as wanted.
+//! A run of calls: the systematic ones, part by part, and as many random calls as
+//! wanted.
 
 use crate::call::{Call, Library};
 use crate::compare::{Difference, compare};
@@ -12,6 +13,30 @@ pub type Held = Result<(), Box<Difference>>;
 
 /// What takes the calls.
 pub type Put<'a> = &'a mut dyn FnMut(Call) -> Held;
+
+/// A part of the systematic calls.
+pub type Part = fn(Put<'_>) -> Held;
+
+/// Every limit, length, code, fault, escape and lost part by itself, what is refused
+/// in pairs, and great numbers. No part needs another, so that they can run side by
+/// side: the longest come first.
+pub const PARTS: [(&str, Part); 15] = [
+    ("executes::large::most", executes::large::most),
+    ("executes::large::each", executes::large::each),
+    ("stripes::most", stripes::most),
+    ("guards::large", guards::large),
+    ("executes::each", executes::each),
+    ("formats::large", formats::large),
+    ("listings::large", listings::large),
+    ("stripes::large", stripes::large),
+    ("executes::order::each", executes::order::each),
+    ("listings::each", listings::each),
+    ("listings::pairs", listings::pairs),
+    ("formats::each", formats::each),
+    ("guards::each", guards::each),
+    ("stripes::each", stripes::each),
+    ("stripes::pairs", stripes::pairs),
+];
 
 /// A library on trial, and what was reached so far.
 pub struct Trial<'a, L> {
@@ -36,26 +61,6 @@ impl<'a, L: Library> Trial<'a, L> {
         let answer = compare(self.library, call, &mut self.rooms, number as usize % 8)?;
         self.tally.note(function, answer);
         Ok(())
-    }
-
-    /// Every limit, length, code, fault, escape and lost part by itself, what is
-    /// refused in pairs, and great numbers last.
-    pub fn systematic(&mut self) -> Held {
-        let put: Put = &mut |call| self.put(call);
-        guards::each(put)?;
-        guards::large(put)?;
-        formats::each(put)?;
-        formats::large(put)?;
-        stripes::each(put)?;
-        stripes::pairs(put)?;
-        stripes::large(put)?;
-        stripes::most(put)?;
-        listings::each(put)?;
-        listings::pairs(put)?;
-        listings::large(put)?;
-        executes::each(put)?;
-        executes::order::each(put)?;
-        executes::large::each(put)
     }
 
     /// Calls from a seed, biased to the limits.

@@ -7,6 +7,7 @@ use std::ptr;
 
 use crate::call::Call;
 use crate::fence::Way;
+use crate::runs::Run;
 
 /// Linux's numbers.
 const SIGBUS: c_int = 7;
@@ -24,15 +25,15 @@ struct At<'a> {
 }
 
 thread_local! {
-    static SEED: Cell<u64> = const { Cell::new(0) };
+    static RUN: Cell<Option<Run>> = const { Cell::new(None) };
     static INPUT: Cell<u64> = const { Cell::new(0) };
     static AT: Cell<*const At<'static>> = const { Cell::new(ptr::null()) };
 }
 
-/// From now on such a touch on this thread ends the program with a message to
-/// standard error and exit status 1.
-pub fn install(seed: u64) {
-    SEED.set(seed);
+/// From now on such a touch ends the program with a message to standard error and
+/// exit status 1. On this thread the message names this run.
+pub fn install(run: Run) {
+    RUN.set(Some(run));
     for number in [SIGBUS, SIGSEGV] {
         // SAFETY: the handler ends the program.
         unsafe { signal(number, touched) };
@@ -57,11 +58,11 @@ pub fn over<T>(call: &Call, way: Way, run: impl FnOnce() -> T) -> T {
 /// within a lock of standard error or of the heap, so that a message can be made.
 extern "C" fn touched(_: c_int) {
     let mut out = io::stderr();
+    let run = RUN.get().map_or_else(String::new, |run| format!("{run}, "));
+    let number = INPUT.get();
     let _ = writeln!(
         out,
-        "hold: seed {}, input {} from 0: memory that nobody may touch was touched",
-        SEED.get(),
-        INPUT.get()
+        "hold: {run}input {number} from 0: memory that nobody may touch was touched"
     );
     // SAFETY: set for as long as the call is there; nobody writes it now.
     if let Some(at) = unsafe { AT.get().as_ref() } {

@@ -10,6 +10,7 @@ use crate::scene::{Scene, buffer_length};
 use crate::segment::{BLOCK_LENGTHS, Intervals, SHAPES, just_above, segment_length};
 use crate::trial::{Held, Put};
 
+/// All of them but `most`.
 pub fn each(put: Put<'_>) -> Held {
     every_cut(put)?;
     every_length(put)?;
@@ -17,8 +18,7 @@ pub fn each(put: Put<'_>) -> Held {
     every_address(put)?;
     every_count(put)?;
     every_offset(put)?;
-    more_than_24_bits(put)?;
-    most(put)
+    more_than_24_bits(put)
 }
 
 /// About the numbers of bits that a number may be cut to by mistake.

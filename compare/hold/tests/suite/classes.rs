@@ -4,13 +4,10 @@
 
 use hold::call::{Function, Lent};
 use hold::compare::Difference;
-use hold::trial::{Held, Put, Trial};
+use hold::trial::{Part, Trial};
 use hold::{executes, formats, guards, listings, stripes};
 
 use crate::library::{Passing, Planted};
-
-/// A part of the systematic calls.
-pub type Part = fn(Put<'_>) -> Held;
 
 /// Whether something is so of a call.
 type Whether = fn(&Passing<'_>) -> bool;

@@ -5,6 +5,7 @@ use std::env;
 use std::process::Command;
 
 use hold::call::Function;
+use hold::runs::Run;
 use hold::trial::Trial;
 use hold::watch;
 
@@ -60,7 +61,7 @@ fn touches() {
         panic!("{touch}")
     };
     let slice: usize = slice.parse().expect("a number");
-    watch::install(5);
+    watch::install(Run::Random { seed: 5, count: 0 });
     let library = Planted(|call: Passing<'_>| {
         let answer = call.honest();
         // A listing's answer is its length.

@@ -2,15 +2,16 @@
 
 use hold::call::{Call, Function};
 use hold::report::Tally;
-use hold::trial::Trial;
+use hold::runs::{self, Run, side_by_side};
+use hold::trial::{Part, Trial};
+use hold::{formats, guards};
 
-use crate::library::Honest;
+use crate::library::{Honest, Passing, Planted};
 
 #[test]
 fn an_honest_library_passes_and_every_answer_is_reached() {
-    let mut trial = Trial::new(&Honest);
-    assert!(trial.systematic().is_ok());
-    assert_eq!(trial.tally.amiss(), [""; 0]);
+    let tally = side_by_side(&Honest, &runs::all(7, 0)).expect("no difference");
+    assert_eq!(tally.amiss(), [""; 0]);
 }
 
 #[test]
@@ -19,6 +20,44 @@ fn random_calls_alone_reach_every_answer() {
     assert!(trial.random(7, 60_000).is_ok());
     assert_eq!(trial.tally.amiss(), [""; 0]);
     assert_eq!(trial.tally.inputs(), 60_000);
+}
+
+#[test]
+fn runs_side_by_side_reach_what_each_reaches() {
+    let random = |seed| Run::Random { seed, count: 2_000 };
+    let tally = side_by_side(&Honest, &[1, 2, 3].map(random)).expect("no difference");
+    let mut sum = Tally::default();
+    for seed in [1, 2, 3] {
+        let mut trial = Trial::new(&Honest);
+        assert!(trial.random(seed, 2_000).is_ok());
+        sum.add(&trial.tally);
+    }
+    assert_eq!(tally.inputs(), 6_000);
+    assert_eq!(tally.to_string(), sum.to_string());
+}
+
+#[test]
+fn the_first_run_with_a_difference_is_named_and_its_input() {
+    let library = Planted(|call: Passing<'_>| {
+        let wrong = call.function == Function::Guard && call.bytes(0).len() == 5;
+        call.honest() ^ u64::from(wrong)
+    });
+    // The second is there before the first.
+    let late: Part = |put| {
+        formats::each(put)?;
+        guards::each(put)
+    };
+    let runs = [
+        Run::Random { seed: 1, count: 0 },
+        Run::Part("first", late),
+        Run::Part("second", guards::each),
+    ];
+    let mut trial = Trial::new(&library);
+    assert!(late(&mut |call| trial.put(call)).is_err());
+    let parted = side_by_side(&library, &runs).err().expect("the fault");
+    assert_eq!(parted.run.to_string(), "first");
+    assert_eq!(parted.number, trial.tally.inputs());
+    assert_eq!(parted.difference.call.function, Function::Guard);
 }
 
 #[test]
