@@ -15,7 +15,8 @@ use Rattle.blocks.specs.Blocks.{fieldBytes, withField, storedBlock, storedBlock
 use Rattle.admission.specs.Admission.{typeRules, codeRule, checkRule, rangeRule, movedOf, sizeRule, bufferOf, bufferRule, refusal, admitted}
 use Rattle.checks.specs.Checks.{columnsOf, applicationKnown, referenceKnown, firstTag, rulesOf, startOf}
 use Rattle.checks.specs.Inserted.{insertedApplication, insertedReference, marksOf}
-use Rattle.transfer.specs.Transfer.{offsetOf, spanOf, blocksOf, whole, judgedIn, judged, handed, received, overwritten, performed, executed}
+use Rattle.transfer.specs.Transfer.{offsetOf, spanOf, blocksOf, whole, judgedIn, handed, received}
+use Rattle.execute.specs.Execute.{judged, overwritten, performed, executed}
 use Rattle.parity.specs.Parity.{xorParts, parityOf}
 use Rattle.stripe.specs.Stripe.{stripedOf, members, makeAnswered}
 use Rattle.cases.specs.Cases.{result, expected, vectors, up, down, parityCase, onSegments, cases}

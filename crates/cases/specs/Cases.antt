@@ -6,7 +6,7 @@ use Rattle.words.specs.BigEndian.{bytes}
 use Rattle.guard.specs.Guard.{guard}
 use Rattle.answer.specs.Answer.{numberOf, addressOf, placeOf}
 use Rattle.segment.specs.declared.Description.{Description}
-use Rattle.transfer.specs.Transfer.{Outcome, executed}
+use Rattle.execute.specs.Execute.{Outcome, executed}
 use Rattle.stripe.specs.Stripe.{Striped, makeAnswered}
 
 -- what comes of a case, in the paper's numbers, with every lent byte afterwards

@@ -34,7 +34,8 @@ use Rattle.admission.specs.Admission.{isVerify, movedOf, bufferOf, refusal, adm
 use Rattle.admission.specs.Ready.{Ready}
 use Rattle.admission.proofs.Rules.{inside, moved-plain, moved-whole, moved-most, size-fits, room-moved, buffer-fits, check-zero}
 use Rattle.admission.proofs.Ready.{admitted-ready}
-use Rattle.transfer.specs.Transfer.{blocksOf, judgedIn, judgedFor, judged, handed, performedFor, performed, executed}
+use Rattle.transfer.specs.Transfer.{blocksOf, judgedIn, handed}
+use Rattle.execute.specs.Execute.{judgedFor, judged, performedFor, performed, executed}
 use Rattle.transfer.proofs.Shapes.{moved-flat, whole-not, handed-parted, judged-fields}
 use Rattle.fresh.specs.Allowed.{Allowed}
 use Rattle.fresh.proofs.Runs.{field-at, zeros}

@@ -11,8 +11,8 @@ use Rattle.answer.specs.declared.Answer.{Answer}
 use Rattle.answer.specs.declared.Answer.the-variants.{Good}
 use Rattle.answer.proofs.Demands.{good-is-zero}
 use Rattle.segment.specs.declared.Description.{Description}
-use Rattle.transfer.specs.Transfer.{executed}
-use Rattle.transfer.proofs.Demands.{refused-leaves-all}
+use Rattle.execute.specs.Execute.{executed}
+use Rattle.execute.proofs.Demands.{refused-leaves-all}
 use Rattle.filling.specs.Fresh.{filledOf}
 use Rattle.filling.proofs.Demands.{fill-keeps}
 use Rattle.stripe.specs.Stripe.{makeAnswered, rebuildAnswered, correctAnswered}

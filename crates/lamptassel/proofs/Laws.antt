@@ -6,7 +6,7 @@ use Prim.Native.Nat.{ℕ}
 use Rattle.answer.specs.Answer.{numberOf, addressOf, placeOf}
 use Rattle.answer.specs.declared.Answer.{Answer}
 use Rattle.segment.specs.declared.Description.{Description}
-use Rattle.transfer.specs.Transfer.{Outcome, outcome, executed}
+use Rattle.execute.specs.Execute.{Outcome, outcome, executed}
 use Rattle.format.specs.declared.Choice.{Choice}
 use Rattle.filling.specs.Fresh.{Filled, filled, filledOf}
 use Rattle.stripe.specs.Stripe.{Striped, striped, makeAnswered, rebuildAnswered, correctAnswered}

@@ -7,7 +7,7 @@ use Prim.Native.Nat.{ℕ}
 use Rattle.answer.specs.Answer.{numberOf, inTable}
 use Rattle.answer.specs.declared.Answer.{Answer}
 use Rattle.answer.proofs.Demands.{in-table}
-use Rattle.transfer.specs.Transfer.{Outcome}
+use Rattle.execute.specs.Execute.{Outcome}
 use Rattle.format.specs.declared.Choice.{Choice}
 use Rattle.filling.specs.Fresh.{Filled}
 use Rattle.stripe.specs.Stripe.{Striped}

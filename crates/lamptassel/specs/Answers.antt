@@ -4,7 +4,7 @@ use mathlib.Core.List.{List}
 use mathlib.Core.Path.{_≡_}
 use Rattle.answer.specs.Answer.{numberOf, addressOf, placeOf}
 use Rattle.segment.specs.declared.Description.{Description}
-use Rattle.transfer.specs.Transfer.{Outcome}
+use Rattle.execute.specs.Execute.{Outcome}
 use Rattle.format.specs.declared.Choice.{Choice}
 use Rattle.filling.specs.Fresh.{Filled}
 use Rattle.stripe.specs.Stripe.{Striped}

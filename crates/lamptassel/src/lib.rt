@@ -2,7 +2,7 @@
 ghost use mathlib.Core.Path.{_≡_};
 ghost use Rattle.guard.specs.Guard.{guard};
 ghost use Rattle.answer.specs.Answer.{senseNumbered};
-ghost use Rattle.transfer.specs.Transfer.{executed};
+ghost use Rattle.execute.specs.Execute.{executed};
 ghost use Rattle.format.specs.Choice.{choiceOf};
 ghost use Rattle.filling.specs.Fresh.{filledOf};
 ghost use Rattle.stripe.specs.Stripe.{makeAnswered, rebuildAnswered, correctAnswered};
@@ -43,7 +43,7 @@ pub extern "C" fn lamptassel_execute(
     ensures { λ r. ⌜ Executed (executed (described kind block exponent first count ato) (now (segment .entry)) (now (command .entry)) (now (buffer .entry))) r (now (address .exit)) (now (place .exit)) (now (segment .exit)) (now (buffer .exit)) ⌝ }
 {
     let d = described(kind, block, exponent, first, count, ato);
-    let a = transfer::execute(d, segment, command, buffer);
+    let a = execute::execute(d, segment, command, buffer);
     *address = answer::address(a);
     *place = answer::place(a);
     answer::number(a)

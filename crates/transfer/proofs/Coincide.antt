@@ -2,9 +2,23 @@
 -- answers x and y that the contract permits are one, and so is each byte lent to be written, as the calls leave it in s and in t.
 -- Assumes nothing.
 use mathlib.Core.Path.{_≡_, sym, ap, _∙_}
+use mathlib.Core.List.{List}
+use Prim.Native.Nat.{ℕ}
 use denote.Ref.{now}
-use Rattle.transfer.specs.Transfer.{Outcome}
-use Rattle.transfer.proofs.execute.Reads as execute-reads
+use Rattle.answer.specs.declared.Answer.{Answer}
+use Rattle.transfer.specs.Transfer.{keep}
+use Rattle.transfer.proofs.judge_all.Reads as judge-all-reads
+use Rattle.transfer.proofs.read.Reads as read-reads
+use Rattle.transfer.proofs.write.Reads as write-reads
 
-pub execute : (κs : _) (a : _) (x y : _) (s t : _) → execute-reads.Post κs a x s → execute-reads.Post κs a y t → (x ≡ y) × (now (s .1 .0) ≡ now (t .1 .0)) × (now (s .1 .1 .1 .0) ≡ now (t .1 .1 .1 .0))
-execute κs a x y s t p q = (ap (λ (o : Outcome). o .answer) (p ∙ sym q), ap (λ (o : Outcome). o .segment) (p ∙ sym q), ap (λ (o : Outcome). o .buffer) (p ∙ sym q))
+same-kept : {x y : Answer} (old new : List ℕ) → x ≡ y → keep x old new ≡ keep y old new
+same-kept old new e = ap (λ (a : Answer). keep a old new) e
+
+pub judge-all : (κs : _) (a : _) (x y : _) (s t : _) → judge-all-reads.Post κs a x s → judge-all-reads.Post κs a y t → x ≡ y
+judge-all κs a x y s t p q = p ∙ sym q
+
+pub read : (κs : _) (a : _) (x y : _) (s t : _) → read-reads.Post κs a x s → read-reads.Post κs a y t → (x ≡ y) × (now (s .1 .1 .1 .1 .0) ≡ now (t .1 .1 .1 .1 .0))
+read κs a x y s t p q = (p .answer ∙ sym (q .answer), p .lent ∙ same-kept _ _ (p .answer ∙ sym (q .answer)) ∙ sym (q .lent))
+
+pub write : (κs : _) (a : _) (x y : _) (s t : _) → write-reads.Post κs a x s → write-reads.Post κs a y t → (x ≡ y) × (now (s .1 .1 .1 .0) ≡ now (t .1 .1 .1 .0))
+write κs a x y s t p q = (p .answer ∙ sym (q .answer), p .lent ∙ same-kept _ _ (p .answer ∙ sym (q .answer)) ∙ sym (q .lent))

@@ -1,11 +1,3 @@
 pub mod Shapes
 pub mod Steps
-pub mod Outcomes
-pub mod Stored
-pub mod Wrong
-pub mod Accepted
-pub mod InOrder
-pub mod Demands
-pub mod Moved
-pub mod Inserted
 pub mod Coincide

@@ -3,8 +3,8 @@
 use mathlib.Core.Path.{_≡_, refl, sym, ap, _∙_}
 use mathlib.Core.Bool.{Bool, true, false, not, _||_, cond}
 use mathlib.Core.List.{List}
-use Prim.Native.Nat.{ℕ, _+_, _*_, _-_, _≤_}
-use native.Mathlib.Nat.{mul-assoc, mul-le-mul, mul-le-mul-right, add-mul}
+use Prim.Native.Nat.{ℕ, _+_, _*_, _≤_}
+use native.Mathlib.Nat.{mul-assoc, mul-le-mul}
 use native.Mathlib.Omega.{arith}
 use borrow.Author.Tests.{eq-eqb, ne-eqb, eqb-true, eqb-false}
 use lib.Dec.{eqb, lit≤}
@@ -13,7 +13,7 @@ use Rattle.words.proofs.Choice.{never}
 use Rattle.words.specs.Parts.{put}
 use Rattle.answer.specs.declared.Answer.the-variants as answers
 use Rattle.segment.specs.declared.Description.{Description}
-use Rattle.segment.specs.Segment.{Segment, intervalsOf, sizeOf, storedOf, lengthOf}
+use Rattle.segment.specs.Segment.{Segment, intervalsOf, sizeOf, storedOf}
 use Rattle.segment.proofs.Laws.{sizes, stored-intervals, stored-plain}
 use Rattle.command.specs.declared.Command.{Command}
 use Rattle.judge.specs.Judge.{Run, judgeBlocks}
@@ -22,9 +22,8 @@ use Rattle.checks.specs.Inserted.{marksOf}
 use Rattle.blocks.specs.declared.Marks.{Marks}
 use Rattle.blocks.specs.Blocks.{stripped, storedBlocks}
 use Rattle.admission.specs.Admission.{movedOf}
-use Rattle.admission.specs.Ready.{Ready}
 use Rattle.admission.proofs.Rules.{moved-plain, moved-whole}
-use Rattle.transfer.specs.Transfer.{whole, offsetOf, spanOf, judgedIn, handed, received}
+use Rattle.transfer.specs.Transfer.{whole, spanOf, judgedIn, handed, received}
 use Rattle.transfer.specs.Inner.{Shaped, Placed, Fitted}
 
 -- ---- whole blocks or user data
@@ -71,12 +70,6 @@ module _ (d : Description) (c : Command) (s : Segment d) where
   pub intervals-few : c .length ≤ 65536 → c .length * intervalsOf d ≤ 524288
   intervals-few h = mul-le-mul {n₂ = 65536} {m₂ = 8} h (sizes d s .intervals-most)
 
-  pub span-few : c .length ≤ 65536 → c .length * storedOf d ≤ 65536 * 4160
-  span-few h = mul-le-mul h (sizes d s .stored-most)
-
-  pub offset-few : c .address ≤ d .first + d .count → (c .address - d .first) * storedOf d ≤ 65536 * 4160
-  offset-few h = mul-le-mul {n₂ = 65536} {m₂ = 4160} (omega (arith, s .count)) (sizes d s .stored-most)
-
 -- ---- judging
 pub judged-plain : (d : Description) (c : Command) (s : List ℕ) → d .kind ≡ 0 → judgedIn d c s ≡ answers.Good
 unfolding judgedIn
@@ -96,13 +89,6 @@ run d c s h k =
       few = sizes d (h .described) .intervals-most;
       size = sizes d (h .described) .size-most;
     }
-
--- ---- the transfer's place in the segment
-pub span-within : (d : Description) (c : Command) (s b : ℕ) → Ready d c s b → offsetOf d c + spanOf d c ≤ s
-unfolding offsetOf spanOf lengthOf
-span-within d c s b r =
-    rw (r .whole, ← add-mul (c .address - d .first) (c .length) (storedOf d))
-    (mul-le-mul-right (storedOf d) (let h : c .address - d .first + c .length ≤ d .count = omega (arith, r .from, r .to) in h))
 
 -- ---- what the test of `whole` tells
 module _ (d : Description) (c : Command) where

@@ -155,7 +155,7 @@ fn execute_line(
     command: &[u8],
     buffer: &mut [u8],
 ) {
-    let a = transfer::execute(d, segment, command, buffer);
+    let a = execute::execute(d, segment, command, buffer);
     io::write_all(1, name);
     answer_line(a);
     bytes_line(b"  segment ", segment);

@@ -1,4 +1,4 @@
--- `lamptassel::lamptassel_execute`: the numbers of `transfer::execute`'s answer.
+-- `lamptassel::lamptassel_execute`: the numbers of `execute::execute`'s answer.
 -- Assumes nothing.
 use borrow.Author.Needs.{needs}
 use Rattle.lamptassel.proofs.lamptassel_execute.Statement.{statement}

@@ -32,8 +32,8 @@ use Rattle.blocks.proofs.Laws.{field-length, interval-length, block-length, int
 use Rattle.checks.specs.Checks.{columnsOf, applicationKnown, referenceKnown, firstTag, escapeOf, rulesOf, startOf}
 use Rattle.checks.specs.Inserted.{insertedApplication, insertedReference, marksOf}
 use Rattle.checks.specs.Intervals.{intervalAt, placeAt, skipped, verdictAt}
-use Rattle.transfer.specs.Compared.{asRead}
-use Rattle.transfer.proofs.Wrong.{blocks-good}
+use Rattle.execute.specs.Compared.{asRead}
+use Rattle.execute.proofs.Wrong.{blocks-good}
 
 -- ---- pieces that are each judged good, one behind the other
 module _ {M : Type 0} (judge : Place → List ℕ → Answer) (next : Place → Place) (piece : M → List ℕ → List ℕ) (on : M → M) (P Q : ℕ) (F : Place → M → Type 0)

@@ -31,11 +31,12 @@ use Rattle.admission.specs.declared.Admitted.the-variants.{Go}
 use Rattle.admission.specs.Admission.{isVerify, movedOf, admitted}
 use Rattle.admission.proofs.Rules.{room-moved}
 use Rattle.admission.proofs.Ready.{admitted-ready}
-use Rattle.transfer.specs.Transfer.{Outcome, outcome, offsetOf, spanOf, blocksOf, whole, handed, executed}
-use Rattle.transfer.specs.Checked.{underCheck, checkedBlocks}
-use Rattle.transfer.specs.Compared.{Beside}
+use Rattle.transfer.specs.Transfer.{offsetOf, spanOf, blocksOf, whole, handed}
+use Rattle.execute.specs.Execute.{Outcome, outcome, executed}
+use Rattle.execute.specs.Checked.{underCheck, checkedBlocks}
+use Rattle.execute.specs.Compared.{Beside}
 use Rattle.transfer.proofs.Shapes.{whole-not, handed-parted, received-whole}
-use Rattle.transfer.proofs.Demands.{good-in-order, in-order-served, performed-answer, write-or-verify-leaves-buffer, good-write-keeps-other-blocks, good-write-stores, good-read-hands-out, good-exactly-when-all-right}
+use Rattle.execute.proofs.Demands.{good-in-order, in-order-served, performed-answer, write-or-verify-leaves-buffer, good-write-keeps-other-blocks, good-write-stores, good-read-hands-out, good-exactly-when-all-right}
 
 -- ---- a transfer of no blocks
 none-of : (z k : Bool) (t : ℕ) → t ≡ 0 → cond z 0 (cond k 0 t) ≡ 0

@@ -23,7 +23,7 @@ use Rattle.command.proofs.Laws.{decode-known, decode-unknown}
 use Rattle.admission.specs.declared.Admitted.{Admitted}
 use Rattle.admission.specs.declared.Admitted.the-variants.{Refused, Go}
 use Rattle.admission.specs.Admission.{typeRules, codeRule, checkRule, rangeRule, movedOf, sizeRule, bufferOf, bufferRule, refusal, admitDecoded, admitted}
-use Rattle.transfer.specs.Checked.{forProtection}
+use Rattle.execute.specs.Checked.{forProtection}
 
 -- what holds of both holds of the one that a test picks
 pick : {A : Type 0} (P : A → Type 0) (b : Bool) (x y : A) → P x → P y → P (cond b x y)

@@ -39,14 +39,15 @@ use Rattle.admission.specs.declared.Admitted.the-variants.{Refused, Go}
 use Rattle.admission.specs.Admission.{typeRules, codeRule, checkRule, rangeRule, sizeRule, isVerify, movedOf, bufferOf, bufferRule, refusal, admitDecoded, admitted}
 use Rattle.admission.specs.Ready.{Ready}
 use Rattle.admission.proofs.Ready.{admitted-ready}
-use Rattle.transfer.specs.Transfer.{Outcome, outcome, blocksOf, whole, judgedIn, judgedFor, judged, handed, received, overwritten, performedFor, performed, executedAs, executed}
-use Rattle.transfer.specs.Compared.{Alike, Beside, asRead}
+use Rattle.transfer.specs.Transfer.{blocksOf, whole, judgedIn, handed, received}
+use Rattle.execute.specs.Execute.{Outcome, outcome, judgedFor, judged, overwritten, performedFor, performed, executedAs, executed}
+use Rattle.execute.specs.Compared.{Alike, Beside, asRead}
 use Rattle.transfer.proofs.Shapes.{whole-code, whole-not, received-whole, judged-plain, judged-fields}
-use Rattle.transfer.specs.Checked.{underCheck, checkedBlocks, FirstWrongInterval, forProtection, WrongInterval}
-use Rattle.transfer.proofs.Wrong.{blocks-good, blocks-wrong, interval-verdict}
-use Rattle.transfer.proofs.Accepted.{inserted-accepted, received-accepted}
-use Rattle.transfer.proofs.InOrder.{not-in-order-names-no-interval}
-use Rattle.transfer.proofs.Stored.{enough, inserted, beside-itself, overwritten-beside, overwritten-there, handed-back, same-blocks}
+use Rattle.execute.specs.Checked.{underCheck, checkedBlocks, FirstWrongInterval, forProtection, WrongInterval}
+use Rattle.execute.proofs.Wrong.{blocks-good, blocks-wrong, interval-verdict}
+use Rattle.execute.proofs.Accepted.{inserted-accepted, received-accepted}
+use Rattle.execute.proofs.InOrder.{not-in-order-names-no-interval}
+use Rattle.execute.proofs.Stored.{enough, inserted, beside-itself, overwritten-beside, overwritten-there, handed-back, same-blocks}
 
 -- ---- what an operation leaves alone, and what it does
 module _ (a : Answer) (d : Description) (c : Command) (segment buffer : List ℕ) where

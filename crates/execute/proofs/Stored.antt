@@ -20,9 +20,11 @@ use Rattle.checks.specs.Inserted.{marksOf}
 use Rattle.admission.specs.Admission.{isVerify, movedOf}
 use Rattle.admission.specs.Ready.{Ready}
 use Rattle.admission.proofs.Rules.{room-moved}
-use Rattle.transfer.specs.Transfer.{offsetOf, spanOf, blocksOf, whole, handed, received, overwritten}
-use Rattle.transfer.specs.Compared.{Beside}
-use Rattle.transfer.proofs.Shapes.{span-within, span-intervals, moved-intervals, moved-when-whole, parted, handed-whole, handed-parted, received-whole, received-parted}
+use Rattle.transfer.specs.Transfer.{offsetOf, spanOf, blocksOf, whole, handed, received}
+use Rattle.execute.specs.Execute.{overwritten}
+use Rattle.execute.specs.Compared.{Beside}
+use Rattle.transfer.proofs.Shapes.{span-intervals, moved-intervals, moved-when-whole, parted, handed-whole, handed-parted, received-whole, received-parted}
+use Rattle.execute.proofs.Spans.{span-within}
 
 pub beside-itself : (d : Description) (c : Command) (s : List ℕ) → Beside d c s s
 beside-itself d c s = record { before = refl; behind = refl; long = refl }

@@ -22,7 +22,7 @@ use Rattle.judge.proofs.PieceLaws.{pieces-verdict}
 use Rattle.checks.specs.Checks.{rulesOf, startOf, firstTag}
 use Rattle.checks.specs.Intervals.{blockAt, intervalAt, placeAt, skipped, verdictAt}
 use Rattle.checks.proofs.Places.{place-is}
-use Rattle.transfer.specs.Checked.{Names, FirstWrongInterval}
+use Rattle.execute.specs.Checked.{Names, FirstWrongInterval}
 
 -- ---- one interval
 abbrev inTurn : Place → Bool → Bool → Bool → Answer

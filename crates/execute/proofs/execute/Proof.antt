@@ -1,11 +1,11 @@
--- `transfer::execute`: what admission refuses is refused; what it lets go on is performed.
+-- `execute::execute`: what admission refuses is refused; what it lets go on is performed.
 -- Assumes nothing.
 use mathlib.Core.Path.{sym, _∙_}
 use Rattle.admission.proofs.Ready.{admitted-ready}
-use Rattle.transfer.proofs.Outcomes.{refused-outcome, went-outcome}
+use Rattle.execute.proofs.Outcomes.{refused-outcome, went-outcome}
 use borrow.Author.Needs.{needs}
-use Rattle.transfer.proofs.execute.Statement.{statement}
-use Rattle.transfer.proofs.execute.Tie as tie
+use Rattle.execute.proofs.execute.Statement.{statement}
+use Rattle.execute.proofs.execute.Tie as tie
 
 perform-requires : tie.Need-perform-requires
 perform-requires c κs = admitted-ready _ _ _ _ _ (sym (c .before .before .before .before .before .admit .ensures) ∙ c .before .before .before .decided2 .given .1)

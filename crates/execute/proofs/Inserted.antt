@@ -35,12 +35,13 @@ use Rattle.checks.specs.Checks.{firstTag}
 use Rattle.checks.specs.Inserted.{insertedReference, marksOf}
 use Rattle.checks.specs.Intervals.{intervalAt}
 use Rattle.admission.specs.Ready.{Ready}
-use Rattle.transfer.specs.Transfer.{blocksOf, received, executed}
-use Rattle.transfer.specs.Inserted.{insertedReferenceAt, userDataAt, InsertedAt}
+use Rattle.transfer.specs.Transfer.{blocksOf, received}
+use Rattle.execute.specs.Execute.{executed}
+use Rattle.execute.specs.Inserted.{insertedReferenceAt, userDataAt, InsertedAt}
 use Rattle.transfer.proofs.Shapes.{whole-not}
-use Rattle.transfer.proofs.Accepted.{small-application, small-reference}
-use Rattle.transfer.proofs.Stored.{enough, inserted}
-use Rattle.transfer.proofs.Demands.{good-write-stores}
+use Rattle.execute.proofs.Accepted.{small-application, small-reference}
+use Rattle.execute.proofs.Stored.{enough, inserted}
+use Rattle.execute.proofs.Demands.{good-write-stores}
 
 -- ---- the piece at a place, and what lies behind it
 within : (j k P : ℕ) (s : List ℕ) → j < k → k * P ≤ length s → P ≤ length (drop (j * P) s)

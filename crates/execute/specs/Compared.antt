@@ -8,7 +8,8 @@ use Rattle.answer.specs.Answer.{isGood}
 use Rattle.segment.specs.declared.Description.{Description}
 use Rattle.command.specs.declared.Command.{Command}
 use Rattle.command.specs.declared.Operation.the-variants.{Read}
-use Rattle.transfer.specs.Transfer.{Outcome, offsetOf, spanOf}
+use Rattle.transfer.specs.Transfer.{offsetOf, spanOf}
+use Rattle.execute.specs.Execute.{Outcome}
 
 -- "the transfer's own blocks of the segment are overwritten and no other": the bytes before and behind them are the old
 -- ones, and there are as many in all

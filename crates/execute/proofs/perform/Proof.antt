@@ -1,12 +1,12 @@
--- `transfer::perform`: each operation on the transfer's own blocks.
+-- `execute::perform`: each operation on the transfer's own blocks.
 -- Assumes nothing.
 use mathlib.Core.Path.{refl, ap}
 use native.Mathlib.Omega.{arith}
 use Rattle.admission.specs.Admission.{isVerify}
-use Rattle.transfer.proofs.Outcomes.{located, short, within, placed, shaped, fitted, blocks-are, read-outcome, write-outcome, verify-outcome}
+use Rattle.execute.proofs.Outcomes.{located, short, within, placed, shaped, fitted, blocks-are, read-outcome, write-outcome, verify-outcome}
 use borrow.Author.Needs.{needs}
-use Rattle.transfer.proofs.perform.Statement.{statement}
-use Rattle.transfer.proofs.perform.Tie as tie
+use Rattle.execute.proofs.perform.Statement.{statement}
+use Rattle.execute.proofs.perform.Tie as tie
 
 offset-requires : tie.Need-offset-requires
 offset-requires c κs = located (c .before .before .before .pre)

@@ -18,9 +18,10 @@ use Rattle.admission.specs.declared.Admitted.the-variants.{Refused, Go}
 use Rattle.admission.specs.Admission.{isVerify, admitted}
 use Rattle.admission.specs.Ready.{Ready}
 use Rattle.admission.proofs.Rules.{room-moved}
-use Rattle.transfer.specs.Transfer.{outcome, keep, offsetOf, spanOf, blocksOf, judgedIn, judgedFor, judged, handed, received, overwritten, performedFor, performed, executed}
+use Rattle.transfer.specs.Transfer.{keep, offsetOf, spanOf, blocksOf, judgedIn, handed, received}
+use Rattle.execute.specs.Execute.{outcome, judgedFor, judged, overwritten, performedFor, performed, executed}
 use Rattle.transfer.specs.Inner.{Shaped, Placed, Fitted, ReadDone, WriteDone}
-use Rattle.transfer.proofs.Shapes.{span-within}
+use Rattle.execute.proofs.Spans.{span-within}
 
 -- ---- what admission settled
 module _ {d : Description} {c : Command} {s b : ℕ} (r : Ready d c s b) where

@@ -1,12 +1,12 @@
--- `transfer::span`: its blocks, whole.
+-- `execute::span`: its blocks, whole.
 -- Assumes nothing.
 use mathlib.Core.Path.{ap}
 use Prim.Native.Nat.{ℕ, _*_}
 use native.Mathlib.Omega.{arith}
 use Rattle.transfer.specs.Transfer.{spanOf}
-use Rattle.transfer.proofs.Shapes.{span-few}
-use Rattle.transfer.proofs.span.Statement.{statement}
-use Rattle.transfer.proofs.span.Tie as tie
+use Rattle.execute.proofs.Spans.{span-few}
+use Rattle.execute.proofs.span.Statement.{statement}
+use Rattle.execute.proofs.span.Tie as tie
 
 stored-requires : tie.Need-stored-requires
 stored-requires c κs = c .pre .0

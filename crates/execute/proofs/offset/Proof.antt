@@ -1,13 +1,13 @@
--- `transfer::offset`: the blocks before it, whole.
+-- `execute::offset`: the blocks before it, whole.
 -- Assumes nothing.
 use mathlib.Core.Path.{ap}
 use Prim.Native.Nat.{ℕ, _*_, _-_}
 use native.Mathlib.Omega.{arith}
 use Rattle.transfer.specs.Transfer.{offsetOf}
-use Rattle.transfer.proofs.Shapes.{offset-few}
+use Rattle.execute.proofs.Spans.{offset-few}
 use borrow.Author.Needs.{needs}
-use Rattle.transfer.proofs.offset.Statement.{statement}
-use Rattle.transfer.proofs.offset.Tie as tie
+use Rattle.execute.proofs.offset.Statement.{statement}
+use Rattle.execute.proofs.offset.Tie as tie
 
 stored-requires : tie.Need-stored-requires
 stored-requires c κs = c .before .before .pre .0

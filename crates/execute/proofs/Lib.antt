@@ -1,0 +1,10 @@
+pub mod Spans
+pub mod Outcomes
+pub mod Stored
+pub mod Wrong
+pub mod Accepted
+pub mod InOrder
+pub mod Demands
+pub mod Moved
+pub mod Inserted
+pub mod Coincide

@@ -1,0 +1,4 @@
+pub mod Execute
+pub mod Checked
+pub mod Compared
+pub mod Inserted
