@@ -14,7 +14,8 @@ use Rattle.command.specs.declared.Command.{Command}
 use Rattle.command.specs.declared.Operation.{Operation}
 use Rattle.command.specs.declared.Operation.the-variants.{Read, Write, Verify}
 use Rattle.judge.specs.Judge.{judgeBlocks}
-use Rattle.blocks.specs.Blocks.{stripped, storedBlocks}
+use Rattle.blocks.specs.Blocks.{stripped}
+use Rattle.insertion.specs.Insertion.{storedBlocks}
 use Rattle.checks.specs.Checks.{rulesOf, startOf}
 use Rattle.checks.specs.Inserted.{marksOf}
 use Rattle.admission.specs.declared.Admitted.{Admitted}
