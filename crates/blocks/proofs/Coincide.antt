@@ -4,18 +4,10 @@
 use mathlib.Core.Path.{_≡_, sym, _∙_}
 use denote.Ref.{now}
 use Rattle.blocks.proofs.strip.Reads as strip-reads
-use Rattle.blocks.proofs.insert_block.Reads as insert-block-reads
-use Rattle.blocks.proofs.insert_blocks.Reads as insert-blocks-reads
 use Rattle.blocks.proofs.store_blocks.Reads as store-blocks-reads
 
 pub strip : (κs : _) (a : _) (x y : _) (s t : _) → strip-reads.Post κs a x s → strip-reads.Post κs a y t → now (s .0) ≡ now (t .0)
 strip κs a x y s t p q = p ∙ sym q
-
-pub insert-block : (κs : _) (a : _) (x y : _) (s t : _) → insert-block-reads.Post κs a x s → insert-block-reads.Post κs a y t → now (s .1 .0) ≡ now (t .1 .0)
-insert-block κs a x y s t p q = p ∙ sym q
-
-pub insert-blocks : (κs : _) (a : _) (x y : _) (s t : _) → insert-blocks-reads.Post κs a x s → insert-blocks-reads.Post κs a y t → now (s .1 .0) ≡ now (t .1 .0)
-insert-blocks κs a x y s t p q = p ∙ sym q
 
 pub store-blocks : (κs : _) (a : _) (x y : _) (s t : _) → store-blocks-reads.Post κs a x s → store-blocks-reads.Post κs a y t → now (s .0) ≡ now (t .0)
 store-blocks κs a x y s t p q = p ∙ sym q

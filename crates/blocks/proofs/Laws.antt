@@ -1,32 +1,17 @@
--- The laws of stored blocks: their lengths, their bytes, and that what was stored reads back. Each follows from the same law of pieces.
+-- The laws of user data taken out: its length, its bytes, and what it depends on. Each follows from the same law of pieces.
 -- Assumes nothing.
-use mathlib.Core.Path.{_≡_, refl, ap, ap₂, _∙_}
-use mathlib.Core.List.{List, [], _++_, append-nil, append-assoc}
-use Prim.Native.Nat.{ℕ, _+_, _*_, _%_, _^_, _<_, _≤_}
+use mathlib.Core.Path.{_≡_}
+use mathlib.Core.List.{List, _++_}
+use Prim.Native.Nat.{ℕ, _+_, _*_, _≤_}
 use native.Mathlib.Nat.{le-trans, le-add-right}
-use lib.ListN.{length, take, drop, length-append}
-use lib.Seq.{take-append-le, take-at, drop-at, length-take-le}
-use Rattle.words.specs.BigEndian.{numberAt, bytes}
+use lib.ListN.{length, take}
+use lib.Seq.{take-append-le, length-take-le}
 use Rattle.words.specs.Parts.{Bytes}
-use Rattle.words.specs.Runs.{runs}
-use Rattle.words.proofs.BigEndian.{bytes-length}
 use Rattle.words.proofs.Parts.{take-bytes}
-use Rattle.guard.specs.Guard.{guard}
-use Rattle.guard.proofs.Laws.{guard-lt}
-use Rattle.blocks.specs.declared.Marks.{Marks}
-use Rattle.blocks.specs.Blocks.{stripped, fieldBytes, withField, later, storedBlock, storedBlocks}
-use Rattle.blocks.proofs.Places.{append-bytes, bytes-bytes, number-there}
-use Rattle.blocks.proofs.Pieces.{runs-length, runs-bytes, runs-behind, runs-read, runs-lots}
+use Rattle.blocks.specs.Blocks.{stripped}
+use Rattle.blocks.proofs.Pieces.{runs-length, runs-bytes, runs-behind}
 
--- ---- the marks that the code counts on by a wrapping sum
-abbrev pub marks : ℕ → ℕ → ℕ → Marks
-marks application reference step = record { application = application; reference = reference; step = step }
-
-pub marks-later : (k by application reference step sum : ℕ) → by ≡ k * step → sum ≡ (reference + by) % 2 ^ 32
-    → marks application sum step ≡ later k (marks application reference step)
-marks-later k by application reference step sum e w = ap (λ (r : ℕ). marks application r step) (w ∙ ap (λ (n : ℕ). (reference + n) % 2 ^ 32) e)
-
--- ---- lengths
+-- ---- length
 pub stripped-length : (size k : ℕ) (s : List ℕ) → k * (size + 8) ≤ length s → length (stripped size k s) ≡ k * size
 unfolding stripped
 stripped-length size k s h =
@@ -37,107 +22,13 @@ stripped-length size k s h =
     s
     h
 
-pub field-length : (m : Marks) (d : List ℕ) → length (fieldBytes m d) ≡ 8
-unfolding fieldBytes
-field-length m d = simp (length-append, bytes-length)
-
-pub interval-length : (size : ℕ) (m : Marks) (s : List ℕ) → size ≤ length s → length (withField size m s) ≡ size + 8
-unfolding withField
-interval-length size m s h =
-    length-append (take size s) _ ∙ ap₂ (λ (x y : ℕ). x + y) (length-take-le size s h) (field-length m _)
-
-pub block-length : (size n : ℕ) (m : Marks) (s : List ℕ) → n * size ≤ length s → length (storedBlock size n m s) ≡ n * (size + 8)
-unfolding storedBlock
-block-length size n m s h = runs-length (withField size) (later 1) size (size + 8) (interval-length size) n m s h
-
-pub blocks-length : (size n k : ℕ) (m : Marks) (s : List ℕ) → k * (n * size) ≤ length s → length (storedBlocks size n k m s) ≡ k * (n * (size + 8))
-unfolding storedBlocks
-blocks-length size n k m s h = runs-length (storedBlock size n) (later n) (n * size) (n * (size + 8)) (block-length size n) k m s h
-
 -- ---- bytes
 pub stripped-bytes : (size k : ℕ) (s : List ℕ) → Bytes s → Bytes (stripped size k s)
 unfolding stripped
 stripped-bytes size k s p = runs-bytes (λ (u : ℕ) (l : List ℕ). take size l) (λ u. u) (size + 8) (λ u l q. take-bytes size l q) k 0 s p
-
-pub field-bytes : (m : Marks) (d : List ℕ) → Bytes (fieldBytes m d)
-unfolding fieldBytes
-field-bytes m d =
-    append-bytes (bytes 2 (guard d)) _ (bytes-bytes 2 (guard d))
-    (append-bytes (bytes 2 (m .application)) _ (bytes-bytes 2 (m .application)) (bytes-bytes 4 (m .reference)))
-
-pub interval-bytes : (size : ℕ) (m : Marks) (s : List ℕ) → Bytes s → Bytes (withField size m s)
-unfolding withField
-interval-bytes size m s p = append-bytes (take size s) _ (take-bytes size s p) (field-bytes m _)
-
-pub block-bytes : (size n : ℕ) (m : Marks) (s : List ℕ) → Bytes s → Bytes (storedBlock size n m s)
-unfolding storedBlock
-block-bytes size n m s p = runs-bytes (withField size) (later 1) size (interval-bytes size) n m s p
-
-pub blocks-bytes : (size n k : ℕ) (m : Marks) (s : List ℕ) → Bytes s → Bytes (storedBlocks size n k m s)
-unfolding storedBlocks
-blocks-bytes size n k m s p = runs-bytes (storedBlock size n) (later n) (n * size) (block-bytes size n) k m s p
 
 -- ---- what lies behind the intervals' own bytes does not count
 pub stripped-behind : (size k : ℕ) (s r : List ℕ) → k * (size + 8) ≤ length s → stripped size k (s ++ r) ≡ stripped size k s
 unfolding stripped
 stripped-behind size k s r h =
     runs-behind (λ (u : ℕ) (l : List ℕ). take size l) (λ u. u) (size + 8) (λ u l q e. take-append-le size l q (le-trans (le-add-right size 8) e)) k 0 s r h
-
-pub interval-behind : (size : ℕ) (m : Marks) (s r : List ℕ) → size ≤ length s → withField size m (s ++ r) ≡ withField size m s
-unfolding withField
-interval-behind size m s r h = ap (λ (l : List ℕ). l ++ fieldBytes m l) (take-append-le size s r h)
-
-pub block-behind : (size n : ℕ) (m : Marks) (s r : List ℕ) → n * size ≤ length s → storedBlock size n m (s ++ r) ≡ storedBlock size n m s
-unfolding storedBlock
-block-behind size n m s r h = runs-behind (withField size) (later 1) size (interval-behind size) n m s r h
-
-pub blocks-behind : (size n k : ℕ) (m : Marks) (s r : List ℕ) → k * (n * size) ≤ length s → storedBlocks size n k m (s ++ r) ≡ storedBlocks size n k m s
-unfolding storedBlocks
-blocks-behind size n k m s r h = runs-behind (storedBlock size n) (later n) (n * size) (block-behind size n) k m s r h
-
--- ---- what was stored reads back, also where the list goes on behind it
-module _ (size : ℕ) (m : Marks) (s r : List ℕ) (h : size ≤ length s) where
-  pub interval-read-on : take size (withField size m s ++ r) ≡ take size s
-  unfolding withField
-  interval-read-on =
-      ap (take size) (append-assoc (take size s) (fieldBytes m (take size s)) r)
-      ∙ take-at (take size s) (fieldBytes m (take size s) ++ r) size (length-take-le size s h)
-
-  pub interval-field-on : drop size (withField size m s ++ r) ≡ fieldBytes m (take size s) ++ r
-  unfolding withField
-  interval-field-on =
-      ap (drop size) (append-assoc (take size s) (fieldBytes m (take size s)) r)
-      ∙ drop-at (take size s) (fieldBytes m (take size s) ++ r) size (length-take-le size s h)
-
-pub block-read-on : (size n : ℕ) (m : Marks) (s r : List ℕ) → n * size ≤ length s → stripped size n (storedBlock size n m s ++ r) ≡ take (n * size) s
-unfolding stripped storedBlock
-block-read-on size n m s r h = runs-read (withField size) (later 1) size (take size) (size + 8) (interval-read-on size) (interval-length size) n m s r h
-
-pub block-read : (size n : ℕ) (m : Marks) (s : List ℕ) → n * size ≤ length s → stripped size n (storedBlock size n m s) ≡ take (n * size) s
-block-read size n m s h = rw append-nil at (block-read-on size n m s [] h)
-
-pub blocks-read-on : (size n k : ℕ) (m : Marks) (s r : List ℕ) → k * (n * size) ≤ length s → stripped size (k * n) (storedBlocks size n k m s ++ r) ≡ take (k * (n * size)) s
-unfolding stripped storedBlocks
-blocks-read-on size n k m s r h =
-    runs-lots (λ (u : ℕ) (l : List ℕ). take size l) (size + 8) 0 n k (runs (storedBlock size n) (later n) (n * size) k m s ++ r)
-    ∙ runs-read (storedBlock size n) (later n) (n * size) (stripped size n) (n * (size + 8)) (block-read-on size n) (block-length size n) k m s r h
-
-pub blocks-read : (size n k : ℕ) (m : Marks) (s : List ℕ) → k * (n * size) ≤ length s → stripped size (k * n) (storedBlocks size n k m s) ≡ take (k * (n * size)) s
-blocks-read size n k m s h = rw append-nil at (blocks-read-on size n k m s [] h)
-
--- ---- the fields written are the fields read
-module _ (m : Marks) (d : List ℕ) where
-  pub guard-there : numberAt 0 2 (fieldBytes m d) ≡ guard d
-  unfolding fieldBytes
-  guard-there = number-there 0 2 (guard d) [] _ refl (guard-lt d)
-
-  pub application-there : m .application < 65536 → numberAt 2 2 (fieldBytes m d) ≡ m .application
-  unfolding fieldBytes
-  application-there h = number-there 2 2 (m .application) (bytes 2 (guard d)) _ (bytes-length 2 (guard d)) h
-
-  pub reference-there : m .reference < 2 ^ 32 → numberAt 4 4 (fieldBytes m d) ≡ m .reference
-  unfolding fieldBytes
-  reference-there h =
-      let both : length (bytes 2 (guard d) ++ bytes 2 (m .application)) ≡ 4 = simp (length-append, bytes-length) in
-      let apart : bytes 2 (guard d) ++ (bytes 2 (m .application) ++ bytes 4 (m .reference)) ≡ (bytes 2 (guard d) ++ bytes 2 (m .application)) ++ (bytes 4 (m .reference) ++ []) = rw (append-nil, append-assoc) in
-      rw apart (number-there 4 4 (m .reference) (bytes 2 (guard d) ++ bytes 2 (m .application)) [] both h)

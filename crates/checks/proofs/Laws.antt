@@ -15,7 +15,7 @@ use Rattle.command.specs.declared.Operation.{Operation}
 use Rattle.judge.specs.declared.Escape.{Escape}
 use Rattle.judge.specs.declared.Rules.{Rules}
 use Rattle.judge.specs.declared.Place.{Place}
-use Rattle.blocks.specs.declared.Marks.{Marks}
+use Rattle.insertion.specs.declared.Marks.{Marks}
 use Rattle.checks.specs.declared.Columns.{Columns}
 use Rattle.checks.specs.Checks.{columnsIn, columnsOf, applicationKnown, referenceKnown, firstTag, escapeOf, rulesOf, startOf}
 use Rattle.checks.specs.Inserted.{insertedApplication, insertedReference, marksOf}

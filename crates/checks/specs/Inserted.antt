@@ -5,7 +5,7 @@ use lib.Dec.{eqb}
 use Rattle.segment.specs.declared.Description.{Description}
 use Rattle.segment.specs.Segment.{intervalsOf}
 use Rattle.command.specs.declared.Command.{Command}
-use Rattle.blocks.specs.declared.Marks.{Marks}
+use Rattle.insertion.specs.declared.Marks.{Marks}
 
 -- "application 0000h if ATO is 0, and if ATO is 1 the expected tag of a 32-byte command, else FFFFh"
 unfoldable pub insertedApplication : Description → Command → ℕ

@@ -26,9 +26,9 @@ use Rattle.judge.specs.FirstOf.{firstOf}
 use Rattle.judge.specs.Judge.{storedGuard, storedApplication, storedReference, escapes, dataOf, fieldOf, anyEscapes, guardWrong, applicationWrong, referenceWrong, judgePieces, judgeInterval, judgeIntervals, judgeBlock, judgeBlocks, nextInterval, nextBlock}
 use Rattle.judge.proofs.PieceLaws.{pieces-verdict}
 use Rattle.judge.proofs.BlockLaws.{any-none}
-use Rattle.blocks.specs.declared.Marks.{Marks}
-use Rattle.blocks.specs.Blocks.{fieldBytes, withField, later, storedBlock, storedBlocks}
-use Rattle.blocks.proofs.Laws.{field-length, interval-length, block-length, interval-read-on, interval-field-on, guard-there, application-there, reference-there}
+use Rattle.insertion.specs.declared.Marks.{Marks}
+use Rattle.insertion.specs.Insertion.{fieldBytes, withField, later, storedBlock, storedBlocks}
+use Rattle.insertion.proofs.Laws.{field-length, interval-length, block-length, interval-read-on, interval-field-on, guard-there, application-there, reference-there}
 use Rattle.checks.specs.Checks.{columnsOf, applicationKnown, referenceKnown, firstTag, escapeOf, rulesOf, startOf}
 use Rattle.checks.specs.Inserted.{insertedApplication, insertedReference, marksOf}
 use Rattle.checks.specs.Intervals.{intervalAt, placeAt, skipped, verdictAt}

@@ -26,9 +26,9 @@ use Rattle.command.specs.declared.Operation.the-variants.{Write}
 use Rattle.command.proofs.Laws.{Bounded, served-bounded}
 use Rattle.judge.specs.Judge.{storedGuard, storedApplication, storedReference, dataOf, fieldOf}
 use Rattle.judge.proofs.FirstLaws.{after}
-use Rattle.blocks.specs.declared.Marks.{Marks}
-use Rattle.blocks.specs.Blocks.{fieldBytes, withField, later, storedBlock, storedBlocks}
-use Rattle.blocks.proofs.Laws.{field-length, interval-length, block-length, interval-read-on, interval-field-on, guard-there, application-there, reference-there}
+use Rattle.insertion.specs.declared.Marks.{Marks}
+use Rattle.insertion.specs.Insertion.{fieldBytes, withField, later, storedBlock, storedBlocks}
+use Rattle.insertion.proofs.Laws.{field-length, interval-length, block-length, interval-read-on, interval-field-on, guard-there, application-there, reference-there}
 use Rattle.blocks.proofs.Pieces.{one-within, rest-within}
 use Rattle.words.proofs.Parts.{one-more, drop-more}
 use Rattle.checks.specs.Checks.{firstTag}

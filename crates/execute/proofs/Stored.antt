@@ -13,8 +13,9 @@ use Rattle.segment.specs.declared.Description.{Description}
 use Rattle.segment.specs.Segment.{intervalsOf, sizeOf, storedOf}
 use Rattle.command.specs.declared.Command.{Command}
 use Rattle.command.specs.declared.Operation.the-variants.{Write}
-use Rattle.blocks.specs.Blocks.{stripped, storedBlocks}
-use Rattle.blocks.proofs.Laws.{blocks-length, blocks-read}
+use Rattle.blocks.specs.Blocks.{stripped}
+use Rattle.insertion.specs.Insertion.{storedBlocks}
+use Rattle.insertion.proofs.Laws.{blocks-length, blocks-read}
 use Rattle.blocks.proofs.Places.{put-before, put-there, put-behind}
 use Rattle.checks.specs.Inserted.{marksOf}
 use Rattle.admission.specs.Admission.{isVerify, movedOf}

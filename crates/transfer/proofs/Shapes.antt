@@ -19,8 +19,9 @@ use Rattle.command.specs.declared.Command.{Command}
 use Rattle.judge.specs.Judge.{Run, judgeBlocks}
 use Rattle.checks.specs.Checks.{rulesOf, startOf}
 use Rattle.checks.specs.Inserted.{marksOf}
-use Rattle.blocks.specs.declared.Marks.{Marks}
-use Rattle.blocks.specs.Blocks.{stripped, storedBlocks}
+use Rattle.insertion.specs.declared.Marks.{Marks}
+use Rattle.blocks.specs.Blocks.{stripped}
+use Rattle.insertion.specs.Insertion.{storedBlocks}
 use Rattle.admission.specs.Admission.{movedOf}
 use Rattle.admission.proofs.Rules.{moved-plain, moved-whole}
 use Rattle.transfer.specs.Transfer.{whole, spanOf, judgedIn, handed, received}

@@ -11,7 +11,8 @@ use Rattle.segment.specs.declared.Description.{Description}
 use Rattle.segment.specs.Segment.{intervalsOf, sizeOf, storedOf}
 use Rattle.command.specs.declared.Command.{Command}
 use Rattle.judge.specs.Judge.{judgeBlocks}
-use Rattle.blocks.specs.Blocks.{stripped, storedBlocks}
+use Rattle.blocks.specs.Blocks.{stripped}
+use Rattle.insertion.specs.Insertion.{storedBlocks}
 use Rattle.checks.specs.Checks.{rulesOf, startOf}
 use Rattle.checks.specs.Inserted.{marksOf}
 

@@ -82,7 +82,7 @@ fn store(t: &[u16; 256], d: Description, c: Command, segment: &mut [u8], at: usi
     let size = segment::size(d);
     let intervals = segment::intervals(d);
     let marks = checks::marks(d, c);
-    blocks::insert_blocks(t, segment, at, buffer, size, intervals, count, marks);
+    insertion::insert_blocks(t, segment, at, buffer, size, intervals, count, marks);
 }
 
 // A WRITE: what it brings is judged, if it brings fields, before a byte is stored.

@@ -1,4 +1,4 @@
--- `blocks::insert_interval`: what was written up to a place grows by each field, up to the end.
+-- `insertion::insert_interval`: what was written up to a place grows by each field, up to the end.
 -- Assumes nothing.
 use mathlib.Core.Path.{_≡_, refl, sym, ap, _∙_}
 use mathlib.Core.List.{List, _++_, append-assoc}
@@ -12,11 +12,11 @@ use Rattle.words.specs.Parts.{put}
 use Rattle.words.proofs.BigEndian.{bytes-length}
 use Rattle.words.proofs.Parts.{put-length}
 use Rattle.guard.specs.Guard.{guard}
-use Rattle.blocks.specs.declared.Marks.{Marks}
-use Rattle.blocks.specs.Blocks.{withField, fieldBytes}
 use Rattle.blocks.proofs.Places.{put-upto}
-use Rattle.blocks.proofs.insert_interval.Statement.{statement}
-use Rattle.blocks.proofs.insert_interval.Tie as tie
+use Rattle.insertion.specs.declared.Marks.{Marks}
+use Rattle.insertion.specs.Insertion.{withField, fieldBytes}
+use Rattle.insertion.proofs.insert_interval.Statement.{statement}
+use Rattle.insertion.proofs.insert_interval.Tie as tie
 
 -- what stands up to a place, and the length of all
 record Written (d front : List ℕ) (at n : ℕ) : Type 0 where

@@ -1,4 +1,4 @@
--- `blocks::insert_block`: one stored interval after the other is put in its place.
+-- `insertion::insert_block`: one stored interval after the other is put in its place.
 -- Assumes nothing.
 use mathlib.Core.Path.{_≡_, refl, sym, ap, _∙_}
 use mathlib.Core.List.{List}
@@ -9,14 +9,14 @@ use lib.ListN.{length, take, drop}
 use borrow.Author.Needs.{needs}
 use Rattle.words.specs.Parts.{put}
 use Rattle.words.proofs.BigEndian.{part-length}
-use Rattle.blocks.specs.declared.Marks.{Marks}
-use Rattle.blocks.specs.Blocks.{withField, later, storedBlock}
 use Rattle.blocks.proofs.Filling.{Filling, within, room, turn, done, begin}
 use Rattle.blocks.proofs.Places.{put-all}
 use Rattle.blocks.proofs.Pieces.{of-part}
-use Rattle.blocks.proofs.Laws.{marks, marks-later, block-length, interval-behind}
-use Rattle.blocks.proofs.insert_block.Statement.{statement}
-use Rattle.blocks.proofs.insert_block.Tie as tie
+use Rattle.insertion.specs.declared.Marks.{Marks}
+use Rattle.insertion.specs.Insertion.{withField, later, storedBlock}
+use Rattle.insertion.proofs.Laws.{marks, marks-later, block-length, interval-behind}
+use Rattle.insertion.proofs.insert_block.Statement.{statement}
+use Rattle.insertion.proofs.insert_block.Tie as tie
 
 interval-of : (size i : ℕ) (m : Marks) (s new : List ℕ) → i + size ≤ length s → new ≡ withField (length (take (i + size - i) (drop i s))) m (take (i + size - i) (drop i s))
     → new ≡ withField size m (drop i s)

@@ -1,4 +1,4 @@
--- `blocks::insert_blocks`: one stored block after the other is put in its place.
+-- `insertion::insert_blocks`: one stored block after the other is put in its place.
 -- Assumes nothing.
 use mathlib.Core.Path.{refl}
 use Prim.Native.Nat.{_+_, _*_, _≤_}
@@ -6,12 +6,12 @@ use native.Mathlib.Nat.{mul-le-mul, le-of-eq}
 use native.Mathlib.Omega.{arith}
 use borrow.Author.Needs.{needs}
 use Rattle.words.specs.Parts.{put}
-use Rattle.blocks.specs.Blocks.{later, storedBlock, storedBlocks}
 use Rattle.blocks.proofs.Filling.{Filling, within, room, turn, done, begin}
 use Rattle.blocks.proofs.Pieces.{of-part}
-use Rattle.blocks.proofs.Laws.{marks, marks-later, blocks-length, block-behind}
-use Rattle.blocks.proofs.insert_blocks.Statement.{statement}
-use Rattle.blocks.proofs.insert_blocks.Tie as tie
+use Rattle.insertion.specs.Insertion.{later, storedBlock, storedBlocks}
+use Rattle.insertion.proofs.Laws.{marks, marks-later, blocks-length, block-behind}
+use Rattle.insertion.proofs.insert_blocks.Statement.{statement}
+use Rattle.insertion.proofs.insert_blocks.Tie as tie
 
 abbrev Inv-loop : tie.InvT-loop
 Inv-loop t segment₀ at s size intervals count part stored application step by reference₀ left₀ i₀ a₀ segment reference left i a =
