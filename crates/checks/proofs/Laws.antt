@@ -12,9 +12,9 @@ use Rattle.segment.specs.Segment.{Segment, intervalsOf, sizeOf}
 use Rattle.segment.proofs.Laws.{sizes}
 use Rattle.command.specs.declared.Command.{Command}
 use Rattle.command.specs.declared.Operation.{Operation}
-use Rattle.judge.specs.declared.Escape.{Escape}
-use Rattle.judge.specs.declared.Rules.{Rules}
-use Rattle.judge.specs.declared.Place.{Place}
+use Rattle.interval.specs.declared.Escape.{Escape}
+use Rattle.interval.specs.declared.Rules.{Rules}
+use Rattle.interval.specs.declared.Place.{Place}
 use Rattle.insertion.specs.declared.Marks.{Marks}
 use Rattle.checks.specs.declared.Columns.{Columns}
 use Rattle.checks.specs.Checks.{columnsIn, columnsOf, applicationKnown, referenceKnown, firstTag, escapeOf, rulesOf, startOf}

@@ -7,10 +7,10 @@ use Rattle.segment.specs.Segment.{intervalsOf, sizeOf}
 use Rattle.command.specs.declared.Command.{Command}
 use Rattle.command.specs.declared.Operation.{Operation}
 use Rattle.command.specs.declared.Operation.the-variants.{Read, Write, Verify}
-use Rattle.judge.specs.declared.Escape.{Escape}
-use Rattle.judge.specs.declared.Escape.the-variants.{Never, Tag, Both}
-use Rattle.judge.specs.declared.Rules.{Rules}
-use Rattle.judge.specs.declared.Place.{Place}
+use Rattle.interval.specs.declared.Escape.{Escape}
+use Rattle.interval.specs.declared.Escape.the-variants.{Never, Tag, Both}
+use Rattle.interval.specs.declared.Rules.{Rules}
+use Rattle.interval.specs.declared.Place.{Place}
 use Rattle.checks.specs.declared.Columns.{Columns}
 
 abbrev pub columnsIn : Bool → Bool → Bool → Columns

@@ -8,8 +8,8 @@ use Rattle.answer.specs.declared.Answer.the-variants as answers
 use Rattle.segment.specs.declared.Description.{Description}
 use Rattle.segment.specs.Segment.{intervalsOf, sizeOf}
 use Rattle.command.specs.declared.Command.{Command}
-use Rattle.judge.specs.declared.Place.{Place}
-use Rattle.judge.specs.Judge.{anyEscapes, judgeInterval}
+use Rattle.interval.specs.declared.Place.{Place}
+use Rattle.interval.specs.Interval.{anyEscapes, judgeInterval}
 use Rattle.checks.specs.Checks.{rulesOf, firstTag}
 
 -- "A block has n = 2^e intervals of B/n data bytes. For types 1 to 3 each is followed by eight bytes": the bytes from block j

@@ -8,9 +8,9 @@ ghost use Rattle.checks.specs.Inserted.{insertedApplication, insertedRef
 use command::Command;
 use command::Operation;
 use insertion::Marks;
-use judge::Escape;
-use judge::Place;
-use judge::Rules;
+use interval::Escape;
+use interval::Place;
+use interval::Rules;
 use segment::Description;
 
 // Which fields a protect code chooses.

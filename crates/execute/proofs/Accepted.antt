@@ -19,13 +19,14 @@ use Rattle.segment.specs.declared.Description.{Description}
 use Rattle.segment.specs.Segment.{intervalsOf, sizeOf}
 use Rattle.command.specs.declared.Command.{Command}
 use Rattle.command.specs.declared.Operation.the-variants.{Write}
-use Rattle.judge.specs.declared.Rules.{Rules}
-use Rattle.judge.specs.declared.Place.{Place}
-use Rattle.judge.specs.declared.Escape.the-variants.{Never}
+use Rattle.interval.specs.declared.Rules.{Rules}
+use Rattle.interval.specs.declared.Place.{Place}
+use Rattle.interval.specs.declared.Escape.the-variants.{Never}
+use Rattle.interval.specs.Interval.{storedGuard, storedApplication, storedReference, escapes, dataOf, fieldOf, anyEscapes, guardWrong, applicationWrong, referenceWrong, judgePieces, judgeInterval}
+use Rattle.interval.proofs.PieceLaws.{pieces-verdict}
+use Rattle.interval.proofs.IntervalLaws.{any-none}
 use Rattle.judge.specs.FirstOf.{firstOf}
-use Rattle.judge.specs.Judge.{storedGuard, storedApplication, storedReference, escapes, dataOf, fieldOf, anyEscapes, guardWrong, applicationWrong, referenceWrong, judgePieces, judgeInterval, judgeIntervals, judgeBlock, judgeBlocks, nextInterval, nextBlock}
-use Rattle.judge.proofs.PieceLaws.{pieces-verdict}
-use Rattle.judge.proofs.BlockLaws.{any-none}
+use Rattle.judge.specs.Judge.{judgeIntervals, judgeBlock, judgeBlocks, nextInterval, nextBlock}
 use Rattle.insertion.specs.declared.Marks.{Marks}
 use Rattle.insertion.specs.Insertion.{fieldBytes, withField, later, storedBlock, storedBlocks}
 use Rattle.insertion.proofs.Laws.{field-length, interval-length, block-length, interval-read-on, interval-field-on, guard-there, application-there, reference-there}

@@ -27,10 +27,11 @@ use Rattle.command.specs.declared.Operation.{Operation}
 use Rattle.command.specs.declared.Operation.the-variants.{Read, Write, Verify}
 use Rattle.command.proofs.Laws.{Bounded, served-bounded}
 use Rattle.command.proofs.Demands.{same-command}
+use Rattle.interval.specs.Interval.{dataOf, fieldOf, guardWrong, applicationWrong, referenceWrong, judgeInterval}
+use Rattle.interval.specs.Verdict.{Verdict}
 use Rattle.judge.specs.FirstOf.{firstOf}
-use Rattle.judge.specs.Judge.{dataOf, fieldOf, guardWrong, applicationWrong, referenceWrong, judgeInterval, judgeBlocks}
+use Rattle.judge.specs.Judge.{judgeBlocks}
 use Rattle.judge.proofs.FirstLaws.{good-or}
-use Rattle.judge.specs.Verdict.{Verdict}
 use Rattle.checks.specs.Checks.{rulesOf, startOf, firstTag}
 use Rattle.checks.specs.Intervals.{intervalAt, placeAt, verdictAt}
 use Rattle.checks.proofs.Places.{tag-small}

@@ -12,13 +12,15 @@ use Rattle.answer.specs.declared.Answer.the-variants as answers
 use Rattle.segment.specs.declared.Description.{Description}
 use Rattle.segment.specs.Segment.{intervalsOf, sizeOf}
 use Rattle.command.specs.declared.Command.{Command}
-use Rattle.judge.specs.declared.Rules.{Rules}
-use Rattle.judge.specs.declared.Place.{Place}
+use Rattle.interval.specs.declared.Rules.{Rules}
+use Rattle.interval.specs.declared.Place.{Place}
+use Rattle.interval.specs.Verdict.{Verdict}
+use Rattle.interval.specs.Interval.{dataOf, fieldOf, guardWrong, applicationWrong, referenceWrong, judgePieces, judgeInterval}
+use Rattle.interval.proofs.TurnLaws.{after, pieceAt}
+use Rattle.interval.proofs.PieceLaws.{pieces-verdict}
 use Rattle.judge.specs.FirstOf.{firstOf}
-use Rattle.judge.specs.Verdict.{Verdict}
-use Rattle.judge.specs.Judge.{dataOf, fieldOf, guardWrong, applicationWrong, referenceWrong, judgePieces, judgeInterval, judgeIntervals, judgeBlock, judgeBlocks, nextInterval, nextBlock}
-use Rattle.judge.proofs.FirstLaws.{after, pieceAt, first-good, first-found, FirstWrong, not-both}
-use Rattle.judge.proofs.PieceLaws.{pieces-verdict}
+use Rattle.judge.specs.Judge.{judgeIntervals, judgeBlock, judgeBlocks, nextInterval, nextBlock}
+use Rattle.judge.proofs.FirstLaws.{first-good, first-found, FirstWrong, not-both}
 use Rattle.checks.specs.Checks.{rulesOf, startOf, firstTag}
 use Rattle.checks.specs.Intervals.{blockAt, intervalAt, placeAt, skipped, verdictAt}
 use Rattle.checks.proofs.Places.{place-is}

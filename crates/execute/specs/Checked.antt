@@ -13,8 +13,8 @@ use Rattle.segment.specs.Segment.{intervalsOf}
 use Rattle.command.specs.declared.Command.{Command}
 use Rattle.command.specs.declared.Operation.{Operation}
 use Rattle.command.specs.declared.Operation.the-variants.{Read, Write, Verify}
-use Rattle.judge.specs.declared.Place.{Place}
-use Rattle.judge.specs.Judge.{judgeInterval}
+use Rattle.interval.specs.declared.Place.{Place}
+use Rattle.interval.specs.Interval.{judgeInterval}
 use Rattle.checks.specs.Checks.{rulesOf}
 use Rattle.checks.specs.Intervals.{intervalAt, placeAt, skipped, verdictAt}
 use Rattle.admission.specs.declared.Admitted.the-variants.{Go}

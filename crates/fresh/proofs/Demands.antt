@@ -20,9 +20,10 @@ use Rattle.command.specs.declared.Command.{Command}
 use Rattle.command.specs.declared.Decoded.the-variants.{Served}
 use Rattle.command.specs.declared.Operation.{Operation}
 use Rattle.command.specs.declared.Operation.the-variants.{Read, Write, Verify}
-use Rattle.judge.specs.declared.Escape.{Escape}
-use Rattle.judge.specs.declared.Escape.the-variants.{Tag, Both}
-use Rattle.judge.specs.Judge.{storedApplication, storedReference, escapes, fieldOf, anyEscapes, judgeBlock, judgeBlocks, nextBlock}
+use Rattle.interval.specs.declared.Escape.{Escape}
+use Rattle.interval.specs.declared.Escape.the-variants.{Tag, Both}
+use Rattle.interval.specs.Interval.{storedApplication, storedReference, escapes, fieldOf, anyEscapes}
+use Rattle.judge.specs.Judge.{judgeBlock, judgeBlocks, nextBlock}
 use Rattle.judge.proofs.FirstLaws.{first-good}
 use Rattle.judge.proofs.BlockLaws.{block-escaped}
 use Rattle.blocks.specs.Blocks.{stripped}

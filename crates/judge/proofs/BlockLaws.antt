@@ -1,84 +1,24 @@
--- Intervals, blocks and runs of blocks: their parts, the escape, what they can depend on, and what is not checked at all.
+-- Blocks and runs of blocks: their parts, the escape, what they can depend on, and what is not checked at all.
 -- Assumes nothing.
-use mathlib.Core.Path.{_≡_, refl, sym, ap, ap₂, _∙_}
-use mathlib.Core.Logic.{_↔_}
-use mathlib.Core.Bool.{Bool, true, false, _||_, cond}
+use mathlib.Core.Path.{_≡_, refl, sym, ap₂, _∙_}
+use mathlib.Core.Bool.{Bool, true, false, cond}
 use mathlib.Core.List.{List}
-use Prim.Native.Nat.{ℕ, zero, suc, _+_, _-_, _*_, _^_, _<_, _≤_}
-use native.Mathlib.Nat.{zero-add, one-mul, add-assoc, mul-le-mul}
+use Prim.Native.Nat.{ℕ, _+_, _-_, _*_, _^_, _<_, _≤_}
+use native.Mathlib.Nat.{zero-add, one-mul, mul-le-mul}
 use native.Mathlib.Omega.{arith}
 use lib.ListN.{length, take, drop, length-drop}
-use lib.Seq.{drop-drop, take-take, length-take-le}
-use Rattle.words.proofs.Choice.{or-none}
+use lib.Seq.{drop-drop, length-take-le}
 use Rattle.words.proofs.Parts.{part-at}
 use Rattle.words.proofs.Runs.{peel-within, peel-rest}
 use Rattle.answer.specs.declared.Answer.{Answer}
 use Rattle.answer.specs.declared.Answer.the-variants as answers
-use Rattle.judge.specs.declared.Escape.{Escape}
-use Rattle.judge.specs.declared.Rules.{Rules}
-use Rattle.judge.specs.declared.Place.{Place}
-use Rattle.judge.specs.Judge.{dataOf, fieldOf, escapes, anyEscapes, judgePieces, judgeInterval, judgeIntervals, judgeBlock, judgeBlocks, nextInterval, nextBlock, Run}
-use Rattle.judge.proofs.FirstLaws.{turn-of, own-of, every-of, own-bytes, first-good, drop-take}
-use Rattle.judge.proofs.PieceLaws.{pieces-unchecked}
-
--- ---- the parts of an interval that starts at i, the first of k that end at n
-pub interval-within : (k i size n : ℕ) → 0 < k → i + k * (size + 8) ≡ n → i + size + 8 ≤ n
-interval-within k i size n h e = rw (add-assoc i size 8) (peel-within k i (size + 8) n h e)
-
-pub interval-rest : (k i size n : ℕ) → 0 < k → i + k * (size + 8) ≡ n → i + size + 8 + (k - 1) * (size + 8) ≡ n
-interval-rest k i size n h e = rw (add-assoc i size 8) (peel-rest k i (size + 8) n h e)
-
-pub data-part : (i size : ℕ) (s : List ℕ) → take (i + size - i) (drop i s) ≡ dataOf size (drop i s)
-unfolding dataOf
-data-part = part-at
-
-pub field-part : (i size : ℕ) (s : List ℕ) → take (i + size + 8 - (i + size)) (drop (i + size) s) ≡ fieldOf size (drop i s)
-unfolding fieldOf
-field-part i size s = rw drop-drop (part-at (i + size) 8 s)
-
--- an interval's parts are its own bytes
-own-data : (size : ℕ) (s : List ℕ) → dataOf size (take (size + 8) s) ≡ dataOf size s
-unfolding dataOf
-own-data size s = take-take size (size + 8) s (omega arith)
-
-pub own-field : (size : ℕ) (s : List ℕ) → fieldOf size (take (size + 8) s) ≡ fieldOf size s
-unfolding fieldOf
-own-field size s = rw drop-take (take-take 8 8 (drop size s) (omega arith))
-
--- ---- the escape of any of k intervals
-module _ (e : Escape) (size : ℕ) where
-  abbrev looked : Unit {0} → List ℕ → Bool
-  looked u s = escapes e (fieldOf size s)
-
-  abbrev asked : ℕ → Unit {0} → List ℕ → Bool
-  asked k u s = anyEscapes e size k s
-
-  turned : (k : ℕ) (u : Unit {0}) (s : List ℕ) → asked (suc k) u s ≡ looked u s || asked k u (drop (size + 8) s)
-  unfolding anyEscapes
-  turned k u s = refl
-
-  module _ (k i : ℕ) (s : List ℕ) (b whole : Bool) where
-    -- a turn of a loop
-    pub any-next : 0 < k → b ≡ escapes e (fieldOf size (drop i s)) → b ≡ false → anyEscapes e size k (drop i s) ≡ whole
-        → anyEscapes e size (k - 1) (drop (i + (size + 8)) s) ≡ whole
-    any-next h m o w = rw o at (turn-of looked (λ u. u) (size + 8) asked _||_ turned k i tt s b whole h m w)
-
-    pub any-stop : 0 < k → b ≡ escapes e (fieldOf size (drop i s)) → b ≡ true → anyEscapes e size k (drop i s) ≡ whole → true ≡ whole
-    any-stop h m o w = rw o at (turn-of looked (λ u. u) (size + 8) asked _||_ turned k i tt s b whole h m w)
-
-  pub any-end : (k : ℕ) (s : List ℕ) (whole : Bool) → k ≤ 0 → anyEscapes e size k s ≡ whole → false ≡ whole
-  unfolding anyEscapes
-  any-end zero s whole h w = w
-  any-end (suc k) s whole h w = absurd (omega arith)
-
-  -- none has it exactly when each has it not
-  pub any-none : (k : ℕ) (s : List ℕ) → (anyEscapes e size k s ≡ false) ↔ ((j : ℕ) → j < k → escapes e (fieldOf size (drop (j * (size + 8)) s)) ≡ false)
-  unfolding anyEscapes
-  any-none k s = every-of looked (λ u. u) (size + 8) asked _||_ turned false false (λ u t. refl) or-none k tt s
-
-  pub own-any : (k : ℕ) (s : List ℕ) → anyEscapes e size k (take (k * (size + 8)) s) ≡ anyEscapes e size k s
-  unfolding anyEscapes
-  own-any k s = own-of looked (λ u. u) (size + 8) asked _||_ turned (λ u t. refl) (λ u t. ap (escapes e) (own-field size t)) k tt s
+use Rattle.interval.specs.declared.Rules.{Rules}
+use Rattle.interval.specs.declared.Place.{Place}
+use Rattle.interval.specs.Interval.{anyEscapes, judgePieces, judgeInterval}
+use Rattle.interval.proofs.PieceLaws.{pieces-unchecked}
+use Rattle.interval.proofs.IntervalLaws.{own-data, own-field, own-any}
+use Rattle.judge.specs.Judge.{judgeIntervals, judgeBlock, judgeBlocks, nextInterval, nextBlock, Run}
+use Rattle.judge.proofs.FirstLaws.{own-bytes, first-good}
 
 -- ---- what judging can depend on
 module _ (r : Rules) where

@@ -1,5 +1,4 @@
 pub mod FirstLaws
-pub mod PieceLaws
 pub mod PlaceLaws
 pub mod BlockLaws
 pub mod Coincide

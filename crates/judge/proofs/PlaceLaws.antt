@@ -5,9 +5,9 @@ use Prim.Native.Nat.{ℕ, zero, suc, _+_, _*_, _%_, _^_, _<_}
 use native.Mathlib.Nat.{suc-mul, zero-mul, add-zero, mod-add-mod, mod-eq-of-lt, mod-lt, mul-one, mul-zero}
 use native.Mathlib.Omega.{arith}
 use lib.Dec.{lit<}
-use Rattle.judge.specs.declared.Place.{Place}
+use Rattle.interval.specs.declared.Place.{Place}
+use Rattle.interval.proofs.TurnLaws.{after}
 use Rattle.judge.specs.Judge.{nextInterval, nextBlock}
-use Rattle.judge.proofs.FirstLaws.{after}
 
 pub same-place : (a i x y : ℕ) → x ≡ y → _≡_ {A = Place} (record { address = a; interval = i; tag = x }) (record { address = a; interval = i; tag = y })
 same-place a i x y e = rw e refl

@@ -1,69 +1,15 @@
--- Which interval is wrong, and which of its fields.
-use Prim.Native.Nat.{ℕ, zero, suc, _+_, _*_, _%_, _^_, _≤_}
-use mathlib.Core.Bool.{Bool, false, not, _&&_, _||_, cond}
+-- Which interval of a block, or of a run of blocks, is the first wrong one.
+use Prim.Native.Nat.{ℕ, _+_, _*_, _%_, _^_, _≤_}
+use mathlib.Core.Bool.{cond}
 use mathlib.Core.List.{List}
 use mathlib.Core.Path.{_≡_}
-use lib.Bits.{bitAnd}
-use lib.Dec.{eqb}
-use lib.ListN.{length, take, drop}
-use Rattle.words.specs.BigEndian.{numberAt}
-use Rattle.guard.specs.Guard.{guard}
+use lib.ListN.{length}
 use Rattle.answer.specs.declared.Answer.{Answer}
 use Rattle.answer.specs.declared.Answer.the-variants as answers
-use Rattle.judge.specs.declared.Escape.{Escape}
-use Rattle.judge.specs.declared.Escape.the-variants.{Never, Tag, Both}
-use Rattle.judge.specs.declared.Rules.{Rules}
-use Rattle.judge.specs.declared.Place.{Place}
+use Rattle.interval.specs.declared.Rules.{Rules}
+use Rattle.interval.specs.declared.Place.{Place}
+use Rattle.interval.specs.Interval.{anyEscapes, judgeInterval}
 use Rattle.judge.specs.FirstOf.{firstOf}
-
--- "eight bytes: guard (2), application tag (2), reference tag (4), all big-endian"
-unfoldable pub storedGuard : List ℕ → ℕ
-storedGuard f = numberAt 0 2 f
-
-unfoldable pub storedApplication : List ℕ → ℕ
-storedApplication f = numberAt 2 2 f
-
-unfoldable pub storedReference : List ℕ → ℕ
-storedReference f = numberAt 4 4 f
-
--- "application tag FFFFh for types 1 and 2; FFFFh with reference FFFFFFFFh for type 3"
-unfoldable pub escapes : Escape → List ℕ → Bool
-escapes Never f = false
-escapes Tag f = eqb (storedApplication f) 0xFFFF
-escapes Both f = eqb (storedApplication f) 0xFFFF && eqb (storedReference f) 0xFFFFFFFF
-
--- An interval in a list is its data bytes and the eight after them.
-unfoldable pub dataOf : ℕ → List ℕ → List ℕ
-dataOf size s = take size s
-
-unfoldable pub fieldOf : ℕ → List ℕ → List ℕ
-fieldOf size s = take 8 (drop size s)
-
--- "If any interval of a block has it": k intervals are looked at
-unfoldable pub anyEscapes : Escape → ℕ → ℕ → List ℕ → Bool
-anyEscapes e size zero s = false
-anyEscapes e size (suc k) s = escapes e (fieldOf size s) || anyEscapes e size k (drop (size + 8) s)
-
--- "Guard: always known"
-unfoldable pub guardWrong : Rules → List ℕ → List ℕ → Bool
-guardWrong r d f = r .guard && not (eqb (storedGuard f) (guard d))
-
--- "compared where the mask has ones"
-unfoldable pub applicationWrong : Rules → List ℕ → Bool
-applicationWrong r f = r .application && not (eqb (bitAnd (storedApplication f) (r .mask)) (bitAnd (r .expected) (r .mask)))
-
-unfoldable pub referenceWrong : Rules → Place → List ℕ → Bool
-referenceWrong r p f = r .reference && not (eqb (storedReference f) (p .tag))
-
--- "in one interval guard, application, reference"
-unfoldable pub judgePieces : Rules → Place → List ℕ → List ℕ → Answer
-judgePieces r p d f =
-    cond (guardWrong r d f) (answers.Guard (p .address) (p .interval))
-    (cond (applicationWrong r f) (answers.Application (p .address) (p .interval))
-    (cond (referenceWrong r p f) (answers.Reference (p .address) (p .interval)) answers.Good))
-
-unfoldable pub judgeInterval : Rules → Place → List ℕ → Answer
-judgeInterval r p s = judgePieces r p (dataOf (r .size) s) (fieldOf (r .size) s)
 
 -- "Each later expected tag is one more than the one before, modulo 4,294,967,296, interval after interval through the
 -- transfer"

@@ -1,3 +1,2 @@
 pub mod FirstOf
 pub mod Judge
-pub mod Verdict

@@ -9,9 +9,9 @@ use native.Mathlib.Omega.{arith}
 use lib.ListN.{length, take, drop, length-append}
 use Rattle.words.specs.BigEndian.{numberAt}
 use Rattle.answer.specs.declared.Answer.{Answer}
-use Rattle.judge.specs.declared.Rules.{Rules}
-use Rattle.judge.specs.declared.Place.{Place}
-use Rattle.judge.specs.Judge.{storedGuard, storedApplication, storedReference, dataOf, fieldOf, judgePieces, judgeInterval}
+use Rattle.interval.specs.declared.Rules.{Rules}
+use Rattle.interval.specs.declared.Place.{Place}
+use Rattle.interval.specs.Interval.{storedGuard, storedApplication, storedReference, dataOf, fieldOf, judgePieces, judgeInterval}
 use Rattle.text.specs.Text.{hexadecimal, decimal}
 use Rattle.text.specs.Laid.{Written}
 use Rattle.text.proofs.Writing.{written-then, written-as}

@@ -6,9 +6,10 @@ use mathlib.Core.Path.{_≡_}
 use lib.ListN.{length, drop}
 use Rattle.answer.specs.declared.Answer.{Answer}
 use Rattle.answer.specs.declared.Answer.the-variants as answers
-use Rattle.judge.specs.declared.Rules.{Rules}
-use Rattle.judge.specs.declared.Place.{Place}
-use Rattle.judge.specs.Judge.{storedGuard, storedApplication, storedReference, fieldOf, anyEscapes, judgeInterval, nextInterval, nextBlock}
+use Rattle.interval.specs.declared.Rules.{Rules}
+use Rattle.interval.specs.declared.Place.{Place}
+use Rattle.interval.specs.Interval.{storedGuard, storedApplication, storedReference, fieldOf, anyEscapes, judgeInterval}
+use Rattle.judge.specs.Judge.{nextInterval, nextBlock}
 use Rattle.text.specs.Text.{hexadecimal, decimal}
 use Rattle.text.specs.Laid.{Written}
 use Rattle.lines.specs.declared.Line.{Line}

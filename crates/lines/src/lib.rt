@@ -6,8 +6,8 @@ ghost use Rattle.guard.specs.Table.{Right};
 ghost use Rattle.text.specs.Laid.{Written};
 ghost use Rattle.lines.specs.Lines.{worded, stateOf, lineOf, faulty, skips, stateText, lineText, numbersText};
 use answer::Answer;
-use judge::Place;
-use judge::Rules;
+use interval::Place;
+use interval::Rules;
 
 // The state of an interval's line.
 pub enum State {
@@ -90,7 +90,7 @@ fn state_of(t: &[u16; 256], r: Rules, skipped: bool, p: Place, s: &[u8]) -> Stat
         return State::Skipped;
     }
     let size = r.size;
-    worded(judge::judge_pieces(t, r, p, &s[..size], &s[size..]))
+    worded(interval::judge_pieces(t, r, p, &s[..size], &s[size..]))
 }
 
 // The line of the interval that `s` is, the one numbered `i` of its block.

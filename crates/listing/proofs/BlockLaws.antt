@@ -7,11 +7,12 @@ use Prim.Native.Nat.{ℕ, zero, suc, _+_, _-_, _*_, _<_, _≤_}
 use native.Mathlib.Nat.{suc-mul}
 use native.Mathlib.Omega.{arith}
 use lib.ListN.{length, take, drop, length-append}
-use Rattle.judge.specs.declared.Rules.{Rules}
-use Rattle.judge.specs.declared.Place.{Place}
+use Rattle.interval.specs.declared.Rules.{Rules}
+use Rattle.interval.specs.declared.Place.{Place}
+use Rattle.interval.proofs.TurnLaws.{turn-of, own-of}
+use Rattle.interval.proofs.IntervalLaws.{own-field, own-any}
 use Rattle.judge.specs.Judge.{nextInterval, nextBlock}
-use Rattle.judge.proofs.FirstLaws.{turn-of, own-of}
-use Rattle.judge.proofs.BlockLaws.{own-field, own-interval, own-any}
+use Rattle.judge.proofs.BlockLaws.{own-interval}
 use Rattle.lines.specs.declared.Line.{Line}
 use Rattle.lines.specs.Lines.{stateOf, lineOf, intervalLines, linesIn, blockLines}
 

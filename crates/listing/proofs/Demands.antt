@@ -12,10 +12,11 @@ use Rattle.answer.specs.declared.Answer.{Answer}
 use Rattle.answer.specs.declared.Answer.the-variants as answers
 use Rattle.segment.specs.declared.Description.{Description}
 use Rattle.segment.specs.Segment.{Segment, intervalsOf, lengthOf}
-use Rattle.judge.specs.declared.Rules.{Rules}
-use Rattle.judge.specs.declared.Place.{Place}
+use Rattle.interval.specs.declared.Rules.{Rules}
+use Rattle.interval.specs.declared.Place.{Place}
+use Rattle.interval.specs.Interval.{dataOf, fieldOf, anyEscapes, guardWrong, applicationWrong, referenceWrong, judgePieces, judgeInterval}
 use Rattle.judge.specs.FirstOf.{firstOf}
-use Rattle.judge.specs.Judge.{dataOf, fieldOf, anyEscapes, guardWrong, applicationWrong, referenceWrong, judgePieces, judgeInterval, judgeIntervals, judgeBlock, judgeBlocks, nextInterval, nextBlock}
+use Rattle.judge.specs.Judge.{judgeIntervals, judgeBlock, judgeBlocks, nextInterval, nextBlock}
 use Rattle.judge.proofs.FirstLaws.{orElse-good}
 use Rattle.checks.specs.Checks.{columnsOf, applicationKnown, rulesOf, startOf}
 use Rattle.text.proofs.Writing.{laid-length}

@@ -16,10 +16,11 @@ use Rattle.words.proofs.Parts.{drop-more}
 use Rattle.answer.specs.declared.Answer.the-variants as answers
 use Rattle.segment.specs.declared.Description.{Description}
 use Rattle.segment.specs.Segment.{Segment, intervalsOf, lengthOf}
-use Rattle.judge.specs.declared.Rules.{Rules}
-use Rattle.judge.specs.declared.Place.{Place}
-use Rattle.judge.specs.Judge.{storedReference, anyEscapes, judgeInterval, nextInterval, nextBlock}
-use Rattle.judge.proofs.FirstLaws.{after}
+use Rattle.interval.specs.declared.Rules.{Rules}
+use Rattle.interval.specs.declared.Place.{Place}
+use Rattle.interval.specs.Interval.{storedReference, anyEscapes, judgeInterval}
+use Rattle.interval.proofs.TurnLaws.{after}
+use Rattle.judge.specs.Judge.{nextInterval, nextBlock}
 use Rattle.checks.specs.Checks.{firstTag, rulesOf, startOf}
 use Rattle.checks.specs.Intervals.{intervalAt, placeAt, skipped, verdictAt}
 use Rattle.checks.proofs.Places.{tag-small, place-is}

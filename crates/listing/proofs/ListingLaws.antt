@@ -16,8 +16,8 @@ use Rattle.segment.specs.declared.Description.{Description}
 use Rattle.segment.specs.Segment.{Segment, intervalsOf, sizeOf, storedOf, lengthOf}
 use Rattle.segment.proofs.Laws.{sizes, stored-intervals}
 use Rattle.command.specs.declared.Command.{Command}
-use Rattle.judge.specs.declared.Rules.{Rules}
-use Rattle.judge.specs.declared.Place.{Place}
+use Rattle.interval.specs.declared.Rules.{Rules}
+use Rattle.interval.specs.declared.Place.{Place}
 use Rattle.judge.specs.Judge.{Run}
 use Rattle.checks.specs.Checks.{rulesOf, startOf}
 use Rattle.text.specs.Text.{decimal}

@@ -12,9 +12,10 @@ use Rattle.guard.specs.Guard.{guard}
 use Rattle.answer.specs.declared.Answer.the-variants as answers
 use Rattle.segment.specs.declared.Description.{Description}
 use Rattle.segment.specs.Segment.{Segment, intervalsOf, sizeOf}
-use Rattle.judge.specs.declared.Place.{Place}
-use Rattle.judge.specs.Judge.{dataOf, fieldOf, storedGuard, storedReference, guardWrong, applicationWrong, referenceWrong, judgePieces, judgeInterval, nextBlock}
-use Rattle.judge.proofs.FirstLaws.{after}
+use Rattle.interval.specs.declared.Place.{Place}
+use Rattle.interval.specs.Interval.{dataOf, fieldOf, storedGuard, storedReference, guardWrong, applicationWrong, referenceWrong, judgePieces, judgeInterval}
+use Rattle.interval.proofs.TurnLaws.{after}
+use Rattle.judge.specs.Judge.{nextBlock}
 use Rattle.judge.proofs.PlaceLaws.{place-after-block}
 use Rattle.checks.specs.Checks.{columnsOf, applicationKnown, referenceKnown, firstTag, rulesOf, startOf}
 use Rattle.lines.specs.declared.State.{State}

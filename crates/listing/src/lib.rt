@@ -12,8 +12,8 @@ ghost use Rattle.listing.specs.Listing.{readAll, linesOf, listedText, re
 use answer::Answer;
 use command::Command;
 use command::Operation;
-use judge::Place;
-use judge::Rules;
+use interval::Place;
+use interval::Rules;
 use lines::Sheet;
 use segment::Description;
 
@@ -53,7 +53,7 @@ fn print_block(t: &[u16; 256], r: Rules, p: Place, s: &[u8], out: &mut [u8], she
 {
     let size = r.size;
     let escape = r.escape;
-    let skipped = judge::any_escaped(escape, size, r.intervals, s);
+    let skipped = interval::any_escaped(escape, size, r.intervals, s);
     let mut left = r.intervals;
     let mut here = p;
     let mut number: u64 = 0;

@@ -18,7 +18,7 @@ use Rattle.words.proofs.Parts.{take-bytes, drop-bytes, part-bytes}
 use Rattle.words.proofs.Xor.{xors-take, xors-drop, xors-self, xors-length, xors-bytes}
 use Rattle.guard.specs.Guard.{guard}
 use Rattle.guard.proofs.Laws.{guard-xors}
-use Rattle.judge.specs.Judge.{dataOf, fieldOf, storedGuard}
+use Rattle.interval.specs.Interval.{dataOf, fieldOf, storedGuard}
 use Rattle.parity.specs.Parity.{part, xorParts, parityOf}
 use Rattle.parity.proofs.Sums.{part-first, part-next}
 use Rattle.stripe.specs.Error.{errorAt, xorOver}

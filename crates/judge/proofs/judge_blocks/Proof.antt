@@ -10,8 +10,8 @@ use borrow.Author.Tests.{not-true, not-false}
 use Rattle.words.proofs.Parts.{part-at}
 use Rattle.answer.specs.Answer.{isGood}
 use Rattle.answer.specs.declared.Answer.{Answer}
-use Rattle.judge.specs.declared.Rules.{Rules}
-use Rattle.judge.specs.declared.Place.{Place}
+use Rattle.interval.specs.declared.Rules.{Rules}
+use Rattle.interval.specs.declared.Place.{Place}
 use Rattle.judge.specs.FirstOf.{firstOf}
 use Rattle.judge.specs.Judge.{judgeBlock, judgeBlocks, nextBlock, Run}
 use Rattle.judge.proofs.FirstLaws.{first-next, first-stop, first-end}

@@ -10,12 +10,13 @@ use lib.ListN.{length, take, drop}
 use borrow.Author.Tests.{not-true, not-false}
 use Rattle.answer.specs.Answer.{isGood}
 use Rattle.answer.specs.declared.Answer.{Answer}
-use Rattle.judge.specs.declared.Rules.{Rules}
-use Rattle.judge.specs.declared.Place.{Place}
+use Rattle.interval.specs.declared.Rules.{Rules}
+use Rattle.interval.specs.declared.Place.{Place}
+use Rattle.interval.specs.Interval.{judgePieces, judgeInterval}
+use Rattle.interval.proofs.IntervalLaws.{interval-within, interval-rest, data-part, field-part}
 use Rattle.judge.specs.FirstOf.{firstOf}
-use Rattle.judge.specs.Judge.{judgePieces, judgeInterval, judgeIntervals, nextInterval, Run}
+use Rattle.judge.specs.Judge.{judgeIntervals, nextInterval, Run}
 use Rattle.judge.proofs.FirstLaws.{first-next, first-stop, first-end}
-use Rattle.judge.proofs.BlockLaws.{interval-within, interval-rest, data-part, field-part}
 use borrow.Author.Needs.{needs}
 use Rattle.judge.proofs.judge_intervals.Statement.{statement}
 use Rattle.judge.proofs.judge_intervals.Tie as tie

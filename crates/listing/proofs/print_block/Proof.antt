@@ -8,9 +8,10 @@ use native.Mathlib.Nat.{zero-add, one-mul}
 use native.Mathlib.Omega.{arith}
 use lib.ListN.{length, take, drop, length-take, length-drop}
 use Rattle.words.proofs.Runs.{peel-within, peel-rest}
-use Rattle.judge.specs.declared.Rules.{Rules}
-use Rattle.judge.specs.declared.Place.{Place}
-use Rattle.judge.specs.Judge.{anyEscapes, nextInterval, Run}
+use Rattle.interval.specs.declared.Rules.{Rules}
+use Rattle.interval.specs.declared.Place.{Place}
+use Rattle.interval.specs.Interval.{anyEscapes}
+use Rattle.judge.specs.Judge.{nextInterval, Run}
 use Rattle.text.proofs.Writing.{written-length}
 use Rattle.lines.specs.declared.Line.{Line}
 use Rattle.lines.specs.declared.Sheet.{Sheet}

@@ -8,8 +8,8 @@ use native.Mathlib.Omega.{arith}
 use lib.ListN.{length, take, drop}
 use Rattle.words.proofs.Parts.{part-at}
 use Rattle.words.proofs.Runs.{peel-rest}
-use Rattle.judge.specs.declared.Rules.{Rules}
-use Rattle.judge.specs.declared.Place.{Place}
+use Rattle.interval.specs.declared.Rules.{Rules}
+use Rattle.interval.specs.declared.Place.{Place}
 use Rattle.judge.specs.Judge.{nextBlock, Run}
 use Rattle.judge.proofs.BlockLaws.{first-within, first-run, first-room, rest-run, block-fits}
 use Rattle.text.proofs.Writing.{written-length}

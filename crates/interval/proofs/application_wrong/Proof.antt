@@ -1,13 +1,13 @@
--- `judge::application_wrong`: a checked tag is compared under the mask, one that is not checked is not wrong.
+-- `interval::application_wrong`: a checked tag is compared under the mask, one that is not checked is not wrong.
 -- Assumes nothing.
 use mathlib.Core.Path.{ap}
 use Prim.Native.Nat.{ℕ}
 use lib.Bits.{bitAnd}
-use Rattle.judge.specs.Judge.{applicationWrong, storedApplication}
-use Rattle.judge.proofs.PieceLaws.{checked, unchecked}
+use Rattle.interval.specs.Interval.{applicationWrong, storedApplication}
+use Rattle.interval.proofs.PieceLaws.{checked, unchecked}
 use borrow.Author.Needs.{needs}
-use Rattle.judge.proofs.application_wrong.Statement.{statement}
-use Rattle.judge.proofs.application_wrong.Tie as tie
+use Rattle.interval.proofs.application_wrong.Statement.{statement}
+use Rattle.interval.proofs.application_wrong.Tie as tie
 
 returns : tie.Need-returns
 unfolding applicationWrong storedApplication

@@ -1,4 +1,4 @@
--- `judge::any_escaped`: the intervals that are left have an escape exactly when all of them have.
+-- `interval::any_escaped`: the intervals that are left have an escape exactly when all of them have.
 -- Assumes nothing.
 use mathlib.Core.Path.{_≡_, refl, ap, _∙_}
 use mathlib.Core.Bool.{Bool, true, false}
@@ -7,12 +7,12 @@ use Prim.Native.Nat.{ℕ, _+_, _*_, _-_, _<_, _≤_}
 use native.Mathlib.Nat.{zero-add, add-assoc}
 use native.Mathlib.Omega.{arith}
 use lib.ListN.{length, take, drop}
-use Rattle.judge.specs.declared.Escape.{Escape}
-use Rattle.judge.specs.Judge.{escapes, anyEscapes}
-use Rattle.judge.proofs.BlockLaws.{interval-within, interval-rest, field-part, any-next, any-stop, any-end}
+use Rattle.interval.specs.declared.Escape.{Escape}
+use Rattle.interval.specs.Interval.{escapes, anyEscapes}
+use Rattle.interval.proofs.IntervalLaws.{interval-within, interval-rest, field-part, any-next, any-stop, any-end}
 use borrow.Author.Needs.{needs}
-use Rattle.judge.proofs.any_escaped.Statement.{statement}
-use Rattle.judge.proofs.any_escaped.Tie as tie
+use Rattle.interval.proofs.any_escaped.Statement.{statement}
+use Rattle.interval.proofs.any_escaped.Tie as tie
 
 record Looking (e : Escape) (size count : ℕ) (s : List ℕ) (left i : ℕ) : Type 0 where
   from : i + left * (size + 8) ≡ length s

@@ -1,10 +1,10 @@
--- `judge::judge_pieces`: each answer comes where its test is the first that holds.
+-- `interval::judge_pieces`: each answer comes where its test is the first that holds.
 -- Assumes nothing.
 use mathlib.Core.Path.{sym, _∙_}
-use Rattle.judge.proofs.PieceLaws.{pieces-verdict}
+use Rattle.interval.proofs.PieceLaws.{pieces-verdict}
 use borrow.Author.Needs.{needs}
-use Rattle.judge.proofs.judge_pieces.Statement.{statement}
-use Rattle.judge.proofs.judge_pieces.Tie as tie
+use Rattle.interval.proofs.judge_pieces.Statement.{statement}
+use Rattle.interval.proofs.judge_pieces.Tie as tie
 
 returns : tie.Need-returns
 returns c = sym (pieces-verdict _ _ _ _ .guard .1 (sym (c .before .guard-wrong .ensures) ∙ c .if1 .taken))

@@ -1,4 +1,4 @@
--- `judge::escaped`: by cases on the escape; where the application tag is another than FFFFh, the reference tag is not asked for.
+-- `interval::escaped`: by cases on the escape; where the application tag is another than FFFFh, the reference tag is not asked for.
 -- Assumes nothing.
 use mathlib.Core.Path.{_≡_, refl}
 use mathlib.Core.Bool.{false}
@@ -8,11 +8,11 @@ use lib.Dec.{eqb}
 use borrow.Author.Needs.{needs}
 use borrow.Author.Tests.{eq-eqb, ne-eqb}
 use Rattle.words.specs.BigEndian.{numberAt}
-use Rattle.judge.specs.declared.Escape.{Escape}
-use Rattle.judge.specs.declared.Escape.the-variants.{Never, Tag, Both}
-use Rattle.judge.specs.Judge.{escapes, storedApplication, storedReference}
-use Rattle.judge.proofs.escaped.Statement.{statement}
-use Rattle.judge.proofs.escaped.Tie as tie
+use Rattle.interval.specs.declared.Escape.{Escape}
+use Rattle.interval.specs.declared.Escape.the-variants.{Never, Tag, Both}
+use Rattle.interval.specs.Interval.{escapes, storedApplication, storedReference}
+use Rattle.interval.proofs.escaped.Statement.{statement}
+use Rattle.interval.proofs.escaped.Tie as tie
 
 module _ (e : Escape) (f : List ℕ) where
   none : e ≡ Never → false ≡ escapes e f

@@ -1,10 +1,10 @@
--- `judge::guard_wrong`: a checked guard is compared with that of the data, one that is not checked is not wrong.
+-- `interval::guard_wrong`: a checked guard is compared with that of the data, one that is not checked is not wrong.
 -- Assumes nothing.
-use Rattle.judge.specs.Judge.{guardWrong, storedGuard}
-use Rattle.judge.proofs.PieceLaws.{checked, unchecked}
+use Rattle.interval.specs.Interval.{guardWrong, storedGuard}
+use Rattle.interval.proofs.PieceLaws.{checked, unchecked}
 use borrow.Author.Needs.{needs}
-use Rattle.judge.proofs.guard_wrong.Statement.{statement}
-use Rattle.judge.proofs.guard_wrong.Tie as tie
+use Rattle.interval.proofs.guard_wrong.Statement.{statement}
+use Rattle.interval.proofs.guard_wrong.Tie as tie
 
 returns : tie.Need-returns
 unfolding guardWrong storedGuard

@@ -10,10 +10,10 @@ use Rattle.words.proofs.Choice.{never}
 use Rattle.answer.specs.Answer.{numberOf}
 use Rattle.answer.specs.declared.Answer.{Answer}
 use Rattle.answer.specs.declared.Answer.the-variants as answers
-use Rattle.judge.specs.declared.Rules.{Rules}
-use Rattle.judge.specs.declared.Place.{Place}
-use Rattle.judge.specs.Verdict.{Verdict}
-use Rattle.judge.specs.Judge.{guardWrong, applicationWrong, referenceWrong, judgePieces}
+use Rattle.interval.specs.declared.Rules.{Rules}
+use Rattle.interval.specs.declared.Place.{Place}
+use Rattle.interval.specs.Verdict.{Verdict}
+use Rattle.interval.specs.Interval.{guardWrong, applicationWrong, referenceWrong, judgePieces}
 
 -- ---- a field that is checked, and one that is not
 pub checked : (on : Bool) (x y a b : ℕ) → on ≡ true → x ≡ a → y ≡ b → not (eqb x y) ≡ on && not (eqb a b)

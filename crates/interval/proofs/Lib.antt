@@ -1,0 +1,4 @@
+pub mod TurnLaws
+pub mod PieceLaws
+pub mod IntervalLaws
+pub mod Coincide
