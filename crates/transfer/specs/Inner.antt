@@ -1,4 +1,4 @@
--- What the parts of `execute` ask of their callers and promise: inner matter, which the contract of `execute::execute` does not name.
+-- What judging and moving ask of their callers and promise: inner matter, which the contract of `execute::execute` does not name.
 use Prim.Native.Nat.{ℕ, _+_, _^_, _≤_}
 use mathlib.Core.Path.{_≡_}
 use mathlib.Core.Bool.{cond}
