@@ -1,4 +1,2 @@
-pub mod Rules
-pub mod Ladder
 pub mod Ready
 pub mod Coincide

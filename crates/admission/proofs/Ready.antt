@@ -1,12 +1,12 @@
 -- What admission has settled of a command that goes on.
 -- Assumes nothing.
-use mathlib.Core.Path.{_≡_, refl, sym, ap, _∙_}
-use mathlib.Core.Bool.{Bool, true, false, not, _&&_, _||_, cond}
+use mathlib.Core.Path.{_≡_, refl, sym, _∙_}
+use mathlib.Core.Bool.{Bool, true, false, not, _&&_, cond}
 use mathlib.Core.List.{List}
-use Prim.Native.Nat.{ℕ, _+_, _≤_}
+use Prim.Native.Nat.{ℕ}
 use native.Mathlib.Omega.{arith}
-use borrow.Author.Tests.{ltb-false, eqb-true, not-false}
-use lib.Dec.{ltb, eqb}
+use borrow.Author.Tests.{eqb-true, not-false}
+use lib.Dec.{eqb}
 use Rattle.words.proofs.Choice.{never}
 use Rattle.answer.specs.Answer.{isGood, orElse}
 use Rattle.answer.specs.declared.Answer.{Answer}
@@ -18,9 +18,11 @@ use Rattle.command.specs.Command.{decode}
 use Rattle.command.specs.declared.Command.{Command}
 use Rattle.command.specs.declared.Decoded.{Decoded}
 use Rattle.command.specs.declared.Decoded.the-variants as decoded
+use Rattle.refusal.specs.Refusal.{typeRules, codeRule, checkRule, rangeRule, sizeRule, bufferOf, bufferRule, refusal}
+use Rattle.refusal.proofs.Ladder.{range-facts}
 use Rattle.admission.specs.declared.Admitted.{Admitted}
 use Rattle.admission.specs.declared.Admitted.the-variants.{Refused, Go}
-use Rattle.admission.specs.Admission.{typeRules, codeRule, checkRule, rangeRule, sizeRule, bufferOf, bufferRule, refusal, admitDecoded, admitted}
+use Rattle.admission.specs.Admission.{admitDecoded, admitted}
 use Rattle.admission.specs.Ready.{Ready}
 
 -- ---- a good answer of a ladder is good at every rung
@@ -30,18 +32,6 @@ both-good a b e = by (isGood a) refl e
     by : (g : Bool) → isGood a ≡ g → isGood (cond g b a) ≡ true → (isGood a ≡ true) × (isGood b ≡ true)
     by true p q = (p, q)
     by false p q = (q, never (sym p ∙ q))
-
-neither : (p q : Bool) → isGood (cond (p || q) answers.Address answers.Good) ≡ true → (p ≡ false) × (q ≡ false)
-neither true q e = never e
-neither false true e = never e
-neither false false e = (refl, refl)
-
-pub range-facts : (d : Description) (c : Command) → isGood (rangeRule d c) ≡ true
-    → (d .first ≤ c .address) × (c .address + c .length ≤ d .first + d .count)
-unfolding rangeRule
-range-facts d c e =
-    let n = neither (ltb (c .address) (d .first)) (ltb (d .first + d .count) (c .address + c .length)) e in
-    (ltb-false (c .address) (d .first) (n .0), ltb-false (d .first + d .count) (c .address + c .length) (n .1))
 
 zero-code : (l e : Bool) → isGood (cond (l && true) answers.Operation (cond (not l && (false && not e)) answers.Operation (cond (true && not e) answers.Field answers.Good))) ≡ true → e ≡ true
 zero-code true e g = never g
@@ -100,7 +90,3 @@ admitted-ready d s command b c e =
     let two = not-refused c (not (eqb s (lengthOf d))) answers.Segment _ (one .1) in
     decoded-ready d (decode command) c s b (segment-facts d (rw (not-false (isSegment d) (one .0)) tt))
     (eqb-true s (lengthOf d) (not-false (eqb s (lengthOf d)) (two .0))) (two .1)
-
--- ---- what the ladder itself needs: past the address the length is small
-pub short : (d : Description) (c : Command) (a : Answer) (g : Bool) → Segment d → a ≡ rangeRule d c → g ≡ isGood a → not g ≡ false → c .length ≤ 65536
-short d c a g s e t n = let r = range-facts d c (ap isGood (sym e) ∙ sym t ∙ not-false g n) in omega (arith, s .count)

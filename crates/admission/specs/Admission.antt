@@ -1,68 +1,19 @@
 -- "Order for a command": all that is decided on the description, the lengths and the command's bytes.
-use Prim.Native.Nat.{ℕ, _+_, _*_}
-use mathlib.Core.Bool.{Bool, true, false, not, _&&_, _||_, cond}
+use Prim.Native.Nat.{ℕ}
+use mathlib.Core.Bool.{not, cond}
 use mathlib.Core.List.{List}
-use lib.Dec.{eqb, ltb}
-use Rattle.answer.specs.Answer.{isGood, orElse}
-use Rattle.answer.specs.declared.Answer.{Answer}
+use lib.Dec.{eqb}
+use Rattle.answer.specs.Answer.{isGood}
 use Rattle.answer.specs.declared.Answer.the-variants as answers
 use Rattle.segment.specs.declared.Description.{Description}
-use Rattle.segment.specs.Segment.{isSegment, storedOf, lengthOf}
+use Rattle.segment.specs.Segment.{isSegment, lengthOf}
 use Rattle.command.specs.Command.{decode}
 use Rattle.command.specs.declared.Command.{Command}
 use Rattle.command.specs.declared.Decoded.{Decoded}
 use Rattle.command.specs.declared.Decoded.the-variants as decoded
-use Rattle.command.specs.declared.Operation.{Operation}
-use Rattle.command.specs.declared.Operation.the-variants.{Read, Write, Verify}
+use Rattle.refusal.specs.Refusal.{refusal}
 use Rattle.admission.specs.declared.Admitted.{Admitted}
 use Rattle.admission.specs.declared.Admitted.the-variants.{Refused, Go}
-
--- "types 0, 1 and 3 answer 5 to every 32-byte command. Type 2 answers 5 to other commands with a non-zero code. Type 0 then
--- answers 6 to a non-zero code."
-unfoldable pub typeRules : Description → Command → Answer
-typeRules d c =
-    cond (c .long && not (eqb (d .kind) 2)) answers.Operation
-    (cond (not (c .long) && (eqb (d .kind) 2 && not (eqb (c .code) 0))) answers.Operation
-    (cond (eqb (d .kind) 0 && not (eqb (c .code) 0)) answers.Field answers.Good))
-
--- "protect code 110 or 111 6"
-unfoldable pub codeRule : Command → Answer
-codeRule c = cond (ltb 0b101 (c .code)) answers.Field answers.Good
-
-abbrev pub isVerify : Operation → Bool
-isVerify Read = false
-isVerify Write = false
-isVerify Verify = true
-
--- "byte-check bits 6": "VERIFY has byte-check bits 2-1 of the protect byte; they must be 0."; the others have none, and 0 here
-unfoldable pub checkRule : Command → Answer
-checkRule c = cond (eqb (c .check) 0) answers.Good answers.Field
-
--- "address below W or address + T above W + N, as whole numbers, 7"
-unfoldable pub rangeRule : Description → Command → Answer
-rangeRule d c = cond (ltb (c .address) (d .first) || ltb (d .first + d .count) (c .address + c .length)) answers.Address answers.Good
-
--- "With code 000 the buffer holds T × B bytes, otherwise T × S"
-unfoldable pub movedOf : Description → Command → ℕ
-movedOf d c = c .length * cond (eqb (c .code) 0) (d .block) (storedOf d)
-
--- "14": "transfer above 4,294,967,295 bytes"
-unfoldable pub sizeRule : Description → Command → Answer
-sizeRule d c = cond (ltb 4294967295 (movedOf d c)) answers.Size answers.Good
-
--- "VERIFY's buffer has 0 bytes."
-unfoldable pub bufferOf : Description → Command → ℕ
-bufferOf d c = cond (isVerify (c .operation)) 0 (movedOf d c)
-
--- "4"
-unfoldable pub bufferRule : Description → Command → ℕ → Answer
-bufferRule d c buffer = cond (eqb buffer (bufferOf d c)) answers.Good answers.BufferLength
-
--- "type rules; protect code 110 or 111 6; byte-check bits 6; address .. 7; 14; 4": the first that refuses
-unfoldable pub refusal : Description → Command → ℕ → Answer
-refusal d c buffer =
-    orElse (typeRules d c)
-    (orElse (codeRule c) (orElse (checkRule c) (orElse (rangeRule d c) (orElse (sizeRule d c) (bufferRule d c buffer)))))
 
 abbrev pub admitCommand : Description → Command → ℕ → Admitted
 admitCommand d c buffer = cond (isGood (refusal d c buffer)) (Go c) (Refused (refusal d c buffer))

@@ -4,7 +4,7 @@ use mathlib.Core.Path.{_≡_}
 use Rattle.segment.specs.declared.Description.{Description}
 use Rattle.segment.specs.Segment.{Segment, lengthOf}
 use Rattle.command.specs.declared.Command.{Command}
-use Rattle.admission.specs.Admission.{bufferOf}
+use Rattle.refusal.specs.Refusal.{bufferOf}
 
 -- `segment` and `buffer` are lengths
 pub record Ready (d : Description) (c : Command) (segment buffer : ℕ) : Type 0 where

@@ -1,12 +1,10 @@
 // The refusals that go by the description, the lengths and the command's bytes, in the document's order.
 ghost use mathlib.Core.Path.{_≡_};
-ghost use Prim.Native.Nat.{_≤_};
 ghost use Rattle.segment.specs.Segment.{Segment};
-ghost use Rattle.admission.specs.Admission.{typeRules, codeRule, checkRule, rangeRule, movedOf, sizeRule, bufferOf, bufferRule, refusal, admitCommand, admitted};
+ghost use Rattle.admission.specs.Admission.{admitCommand, admitted};
 use answer::Answer;
 use command::Command;
 use command::Decoded;
-use command::Operation;
 use segment::Description;
 
 // What admission decides: the refusal, or the command that goes on.
@@ -15,145 +13,11 @@ pub enum Admitted {
     Go(Command),
 }
 
-fn type_rules(d: Description, c: Command) -> Answer
-    ensures { λ r. ⌜ r ≡ typeRules d c ⌝ }
-{
-    if c.long {
-        if d.kind == 2 {
-            return Answer::Good;
-        }
-        return Answer::Operation;
-    }
-    if d.kind == 2 {
-        if c.code == 0 {
-            return Answer::Good;
-        }
-        return Answer::Operation;
-    }
-    if c.code == 0 {
-        return Answer::Good;
-    }
-    if d.kind == 0 {
-        return Answer::Field;
-    }
-    Answer::Good
-}
-
-fn code_rule(c: Command) -> Answer
-    ensures { λ r. ⌜ r ≡ codeRule c ⌝ }
-{
-    if 0b101 < c.code {
-        return Answer::Field;
-    }
-    Answer::Good
-}
-
-fn check_rule(c: Command) -> Answer
-    ensures { λ r. ⌜ r ≡ checkRule c ⌝ }
-{
-    if c.check == 0 {
-        return Answer::Good;
-    }
-    Answer::Field
-}
-
-fn range_rule(d: Description, c: Command) -> Answer
-    requires { ⌜ Segment d ⌝ }
-    ensures { λ r. ⌜ r ≡ rangeRule d c ⌝ }
-{
-    if c.address < d.first {
-        return Answer::Address;
-    }
-    if d.first + d.count < c.address {
-        return Answer::Address;
-    }
-    if d.first + d.count - c.address < c.length {
-        return Answer::Address;
-    }
-    Answer::Good
-}
-
-// The bytes that the transfer moves.
-fn moved(d: Description, c: Command) -> u64
-    requires { ⌜ Segment d ⌝ }
-    requires { ⌜ c .length ≤ 65536 ⌝ }
-    ensures { λ r. ⌜ r ≡ movedOf d c ⌝ }
-{
-    if c.code == 0 {
-        return c.length * d.block;
-    }
-    c.length * segment::stored(d) as u64
-}
-
-fn size_rule(d: Description, c: Command) -> Answer
-    requires { ⌜ Segment d ⌝ }
-    requires { ⌜ c .length ≤ 65536 ⌝ }
-    ensures { λ r. ⌜ r ≡ sizeRule d c ⌝ }
-{
-    if 4294967295 < moved(d, c) {
-        return Answer::Size;
-    }
-    Answer::Good
-}
-
-fn buffer_rule(d: Description, c: Command, buffer: usize) -> Answer
-    requires { ⌜ Segment d ⌝ }
-    requires { ⌜ c .length ≤ 65536 ⌝ }
-    ensures { λ r. ⌜ r ≡ bufferRule d c buffer ⌝ }
-{
-    if buffer == room(d, c) {
-        return Answer::Good;
-    }
-    Answer::BufferLength
-}
-
-// The bytes that the buffer must have.
-fn room(d: Description, c: Command) -> usize
-    requires { ⌜ Segment d ⌝ }
-    requires { ⌜ c .length ≤ 65536 ⌝ }
-    ensures { λ r. ⌜ r ≡ bufferOf d c ⌝ }
-{
-    let o = c.operation;
-    match o {
-        Operation::Read => moved(d, c) as usize,
-        Operation::Write => moved(d, c) as usize,
-        Operation::Verify => 0,
-    }
-}
-
-// The first refusal of a command's fields, or good.
-fn refused(d: Description, c: Command, buffer: usize) -> Answer
-    requires { ⌜ Segment d ⌝ }
-    ensures { λ r. ⌜ r ≡ refusal d c buffer ⌝ }
-{
-    let kind = type_rules(d, c);
-    if !answer::good(kind) {
-        return kind;
-    }
-    let code = code_rule(c);
-    if !answer::good(code) {
-        return code;
-    }
-    let check = check_rule(c);
-    if !answer::good(check) {
-        return check;
-    }
-    let range = range_rule(d, c);
-    if !answer::good(range) {
-        return range;
-    }
-    let size = size_rule(d, c);
-    if !answer::good(size) {
-        return size;
-    }
-    buffer_rule(d, c, buffer)
-}
-
 fn admit_command(d: Description, c: Command, buffer: usize) -> Admitted
     requires { ⌜ Segment d ⌝ }
     ensures { λ r. ⌜ r ≡ admitCommand d c buffer ⌝ }
 {
-    let a = refused(d, c, buffer);
+    let a = refusal::refused(d, c, buffer);
     if answer::good(a) {
         return Admitted::Go(c);
     }

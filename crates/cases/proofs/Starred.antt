@@ -13,7 +13,8 @@ use Rattle.interval.specs.Interval.{storedGuard, storedApplication, storedRefer
 use Rattle.judge.specs.FirstOf.{firstOf}
 use Rattle.judge.specs.Judge.{judgeIntervals, judgeBlock, judgeBlocks}
 use Rattle.insertion.specs.Insertion.{fieldBytes, withField, storedBlock, storedBlocks}
-use Rattle.admission.specs.Admission.{typeRules, codeRule, checkRule, rangeRule, movedOf, sizeRule, bufferOf, bufferRule, refusal, admitted}
+use Rattle.refusal.specs.Refusal.{typeRules, codeRule, checkRule, rangeRule, movedOf, sizeRule, bufferOf, bufferRule, refusal}
+use Rattle.admission.specs.Admission.{admitted}
 use Rattle.checks.specs.Checks.{columnsOf, applicationKnown, referenceKnown, firstTag, rulesOf, startOf}
 use Rattle.checks.specs.Inserted.{insertedApplication, insertedReference, marksOf}
 use Rattle.transfer.specs.Transfer.{offsetOf, spanOf, blocksOf, whole, judgedIn, handed, received}

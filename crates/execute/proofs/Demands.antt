@@ -35,9 +35,10 @@ use Rattle.judge.proofs.FirstLaws.{good-or}
 use Rattle.checks.specs.Checks.{rulesOf, startOf, firstTag}
 use Rattle.checks.specs.Intervals.{intervalAt, placeAt, verdictAt}
 use Rattle.checks.proofs.Places.{tag-small}
+use Rattle.refusal.specs.Refusal.{typeRules, codeRule, checkRule, rangeRule, sizeRule, isVerify, movedOf, bufferOf, bufferRule, refusal}
 use Rattle.admission.specs.declared.Admitted.{Admitted}
 use Rattle.admission.specs.declared.Admitted.the-variants.{Refused, Go}
-use Rattle.admission.specs.Admission.{typeRules, codeRule, checkRule, rangeRule, sizeRule, isVerify, movedOf, bufferOf, bufferRule, refusal, admitDecoded, admitted}
+use Rattle.admission.specs.Admission.{admitDecoded, admitted}
 use Rattle.admission.specs.Ready.{Ready}
 use Rattle.admission.proofs.Ready.{admitted-ready}
 use Rattle.transfer.specs.Transfer.{blocksOf, whole, judgedIn, handed, received}

@@ -20,9 +20,10 @@ use Rattle.command.specs.declared.Named.the-variants.{Known, Unknown}
 use Rattle.command.specs.declared.Operation.{Operation}
 use Rattle.command.specs.Command.{Row, byteZero, serviceAction, find, recognise, layoutOf, isLong, decodeAs, decode}
 use Rattle.command.proofs.Laws.{decode-known, decode-unknown}
+use Rattle.refusal.specs.Refusal.{typeRules, codeRule, checkRule, rangeRule, movedOf, sizeRule, bufferOf, bufferRule, refusal}
 use Rattle.admission.specs.declared.Admitted.{Admitted}
 use Rattle.admission.specs.declared.Admitted.the-variants.{Refused, Go}
-use Rattle.admission.specs.Admission.{typeRules, codeRule, checkRule, rangeRule, movedOf, sizeRule, bufferOf, bufferRule, refusal, admitDecoded, admitted}
+use Rattle.admission.specs.Admission.{admitDecoded, admitted}
 use Rattle.execute.specs.Checked.{forProtection}
 
 -- what holds of both holds of the one that a test picks

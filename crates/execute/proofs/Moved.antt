@@ -27,9 +27,10 @@ use Rattle.judge.specs.Judge.{judgeBlocks}
 use Rattle.blocks.specs.Blocks.{stripped}
 use Rattle.checks.specs.Checks.{rulesOf, startOf}
 use Rattle.checks.specs.Intervals.{verdictAt}
+use Rattle.refusal.specs.Refusal.{isVerify, movedOf}
+use Rattle.refusal.proofs.Rules.{room-moved}
 use Rattle.admission.specs.declared.Admitted.the-variants.{Go}
-use Rattle.admission.specs.Admission.{isVerify, movedOf, admitted}
-use Rattle.admission.proofs.Rules.{room-moved}
+use Rattle.admission.specs.Admission.{admitted}
 use Rattle.admission.proofs.Ready.{admitted-ready}
 use Rattle.transfer.specs.Transfer.{offsetOf, spanOf, blocksOf, whole, handed}
 use Rattle.execute.specs.Execute.{Outcome, outcome, executed}

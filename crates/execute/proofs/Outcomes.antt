@@ -14,10 +14,11 @@ use Rattle.segment.specs.Segment.{Segment}
 use Rattle.command.specs.declared.Command.{Command}
 use Rattle.command.specs.declared.Operation.{Operation}
 use Rattle.command.specs.declared.Operation.the-variants.{Read, Write, Verify}
+use Rattle.refusal.specs.Refusal.{isVerify}
+use Rattle.refusal.proofs.Rules.{room-moved}
 use Rattle.admission.specs.declared.Admitted.the-variants.{Refused, Go}
-use Rattle.admission.specs.Admission.{isVerify, admitted}
+use Rattle.admission.specs.Admission.{admitted}
 use Rattle.admission.specs.Ready.{Ready}
-use Rattle.admission.proofs.Rules.{room-moved}
 use Rattle.transfer.specs.Transfer.{keep, offsetOf, spanOf, blocksOf, judgedIn, handed, received}
 use Rattle.execute.specs.Execute.{outcome, judgedFor, judged, overwritten, performedFor, performed, executed}
 use Rattle.transfer.specs.Inner.{Shaped, Placed, Fitted, ReadDone, WriteDone}

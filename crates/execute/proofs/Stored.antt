@@ -18,9 +18,9 @@ use Rattle.insertion.specs.Insertion.{storedBlocks}
 use Rattle.insertion.proofs.Laws.{blocks-length, blocks-read}
 use Rattle.blocks.proofs.Places.{put-before, put-there, put-behind}
 use Rattle.checks.specs.Inserted.{marksOf}
-use Rattle.admission.specs.Admission.{isVerify, movedOf}
+use Rattle.refusal.specs.Refusal.{isVerify, movedOf}
+use Rattle.refusal.proofs.Rules.{room-moved}
 use Rattle.admission.specs.Ready.{Ready}
-use Rattle.admission.proofs.Rules.{room-moved}
 use Rattle.transfer.specs.Transfer.{offsetOf, spanOf, blocksOf, whole, handed, received}
 use Rattle.execute.specs.Execute.{overwritten}
 use Rattle.execute.specs.Compared.{Beside}

@@ -11,8 +11,8 @@ use Rattle.answer.specs.declared.Answer.{Answer}
 use Rattle.answer.specs.declared.Answer.the-variants as answers
 use Rattle.segment.specs.declared.Description.{Description}
 use Rattle.command.specs.declared.Command.{Command}
-use Rattle.admission.specs.Admission.{typeRules, codeRule}
-use Rattle.admission.proofs.Rules.{long-two, long-other, short-two, short-zero, short-other, code-over, code-fits}
+use Rattle.refusal.specs.Refusal.{typeRules, codeRule}
+use Rattle.refusal.proofs.Rules.{long-two, long-other, short-two, short-zero, short-other, code-over, code-fits}
 use Rattle.fresh.specs.Allowed.{Allowed}
 
 no-operation : (a : Answer) → a ≡ answers.Operation → a ≡ answers.Good → ⊥

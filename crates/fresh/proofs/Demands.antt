@@ -30,10 +30,11 @@ use Rattle.blocks.specs.Blocks.{stripped}
 use Rattle.checks.specs.Checks.{escapeOf, rulesOf, startOf}
 use Rattle.checks.specs.Intervals.{intervalAt, skipped}
 use Rattle.filling.specs.Fresh.{freshIntervals, filledOf}
+use Rattle.refusal.specs.Refusal.{isVerify, movedOf, bufferOf, refusal}
+use Rattle.refusal.proofs.Rules.{inside, moved-plain, moved-whole, moved-most, size-fits, room-moved, buffer-fits, check-zero}
 use Rattle.admission.specs.declared.Admitted.the-variants.{Go}
-use Rattle.admission.specs.Admission.{isVerify, movedOf, bufferOf, refusal, admitted}
+use Rattle.admission.specs.Admission.{admitted}
 use Rattle.admission.specs.Ready.{Ready}
-use Rattle.admission.proofs.Rules.{inside, moved-plain, moved-whole, moved-most, size-fits, room-moved, buffer-fits, check-zero}
 use Rattle.admission.proofs.Ready.{admitted-ready}
 use Rattle.transfer.specs.Transfer.{blocksOf, judgedIn, handed}
 use Rattle.execute.specs.Execute.{judgedFor, judged, performedFor, performed, executed}

@@ -22,8 +22,8 @@ use Rattle.checks.specs.Inserted.{marksOf}
 use Rattle.insertion.specs.declared.Marks.{Marks}
 use Rattle.blocks.specs.Blocks.{stripped}
 use Rattle.insertion.specs.Insertion.{storedBlocks}
-use Rattle.admission.specs.Admission.{movedOf}
-use Rattle.admission.proofs.Rules.{moved-plain, moved-whole}
+use Rattle.refusal.specs.Refusal.{movedOf}
+use Rattle.refusal.proofs.Rules.{moved-plain, moved-whole}
 use Rattle.transfer.specs.Transfer.{whole, spanOf, judgedIn, handed, received}
 use Rattle.transfer.specs.Inner.{Shaped, Placed, Fitted}
 

@@ -10,7 +10,7 @@ use Rattle.answer.specs.declared.Answer.the-variants as answers
 use Rattle.segment.specs.declared.Description.{Description}
 use Rattle.segment.specs.Segment.{Segment}
 use Rattle.command.specs.declared.Command.{Command}
-use Rattle.admission.specs.Admission.{movedOf}
+use Rattle.refusal.specs.Refusal.{movedOf}
 use Rattle.transfer.specs.Transfer.{keep, spanOf, judgedIn, handed, received}
 
 -- n bytes are the transfer's blocks

@@ -7,8 +7,9 @@ use Rattle.answer.specs.Answer.{isGood}
 use Rattle.answer.specs.declared.Answer.{Answer}
 use Rattle.segment.specs.declared.Description.{Description}
 use Rattle.command.specs.declared.Command.{Command}
+use Rattle.refusal.specs.Refusal.{refusal}
 use Rattle.admission.specs.declared.Admitted.the-variants.{Refused, Go}
-use Rattle.admission.specs.Admission.{refusal, admitCommand}
+use Rattle.admission.specs.Admission.{admitCommand}
 use borrow.Author.Needs.{needs}
 use Rattle.admission.proofs.admit_command.Statement.{statement}
 use Rattle.admission.proofs.admit_command.Tie as tie

@@ -2,7 +2,7 @@
 -- Assumes nothing.
 use mathlib.Core.Path.{refl, ap}
 use native.Mathlib.Omega.{arith}
-use Rattle.admission.specs.Admission.{isVerify}
+use Rattle.refusal.specs.Refusal.{isVerify}
 use Rattle.execute.proofs.Outcomes.{located, short, within, placed, shaped, fitted, blocks-are, read-outcome, write-outcome, verify-outcome}
 use borrow.Author.Needs.{needs}
 use Rattle.execute.proofs.perform.Statement.{statement}

@@ -1,12 +1,12 @@
--- `admission::moved`: the code decides, and neither product is large.
+-- `refusal::moved`: the code decides, and neither product is large.
 -- Assumes nothing.
 use Prim.Native.Nat.{ℕ, _*_}
 use mathlib.Core.Path.{sym, ap, _∙_}
 use native.Mathlib.Omega.{arith}
-use Rattle.admission.proofs.Rules.{moved-plain, moved-whole, moved-most}
+use Rattle.refusal.proofs.Rules.{moved-plain, moved-whole, moved-most}
 use borrow.Author.Needs.{needs}
-use Rattle.admission.proofs.moved.Statement.{statement}
-use Rattle.admission.proofs.moved.Tie as tie
+use Rattle.refusal.proofs.moved.Statement.{statement}
+use Rattle.refusal.proofs.moved.Tie as tie
 
 mul-result : tie.Need-mul-result
 mul-result c = omega (arith, moved-most _ (c .before .before .before .before .args .c) (c .before .before .before .before .pre .0) (c .before .before .before .before .pre .1) .0)

@@ -1,14 +1,13 @@
--- `admission::refused`: rule after rule; the first that refuses answers.
+-- `refusal::refused`: rule after rule; the first that refuses answers.
 -- Assumes nothing.
 use mathlib.Core.Path.{_≡_, sym, _∙_}
 use Rattle.answer.specs.Answer.{orElse}
 use Rattle.answer.specs.declared.Answer.{Answer}
-use Rattle.admission.specs.Admission.{codeRule, checkRule, rangeRule, sizeRule, bufferRule, refusal}
-use Rattle.admission.proofs.Ladder.{stops, goes-on}
-use Rattle.admission.proofs.Ready.{short}
+use Rattle.refusal.specs.Refusal.{codeRule, checkRule, rangeRule, sizeRule, bufferRule, refusal}
+use Rattle.refusal.proofs.Ladder.{stops, goes-on, short}
 use borrow.Author.Needs.{needs}
-use Rattle.admission.proofs.refused.Statement.{statement}
-use Rattle.admission.proofs.refused.Tie as tie
+use Rattle.refusal.proofs.refused.Statement.{statement}
+use Rattle.refusal.proofs.refused.Tie as tie
 
 -- where the function began, seen from below each rule
 abbrev from1 : tie.Else1 → tie.Start

@@ -1,10 +1,10 @@
--- `admission::size_rule`: the test decides.
+-- `refusal::size_rule`: the test decides.
 -- Assumes nothing.
 use mathlib.Core.Path.{sym}
-use Rattle.admission.proofs.Rules.{size-over, size-fits}
+use Rattle.refusal.proofs.Rules.{size-over, size-fits}
 use borrow.Author.Needs.{needs}
-use Rattle.admission.proofs.size_rule.Statement.{statement}
-use Rattle.admission.proofs.size_rule.Tie as tie
+use Rattle.refusal.proofs.size_rule.Statement.{statement}
+use Rattle.refusal.proofs.size_rule.Tie as tie
 
 returns : tie.Need-returns
 returns c = sym (size-over _ _ (rw (c .before .moved .ensures) at (c .if1 .taken)))

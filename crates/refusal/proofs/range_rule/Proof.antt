@@ -1,11 +1,11 @@
--- `admission::range_rule`: the end is compared by what is left of the segment, so that nothing wraps.
+-- `refusal::range_rule`: the end is compared by what is left of the segment, so that nothing wraps.
 -- Assumes nothing.
 use mathlib.Core.Path.{sym}
 use native.Mathlib.Omega.{arith}
-use Rattle.admission.proofs.Rules.{below, above, inside}
+use Rattle.refusal.proofs.Rules.{below, above, inside}
 use borrow.Author.Needs.{needs}
-use Rattle.admission.proofs.range_rule.Statement.{statement}
-use Rattle.admission.proofs.range_rule.Tie as tie
+use Rattle.refusal.proofs.range_rule.Statement.{statement}
+use Rattle.refusal.proofs.range_rule.Tie as tie
 
 returns : tie.Need-returns
 returns c = sym (below _ _ (c .if1 .taken))

@@ -1,4 +1,4 @@
--- Each rule of admission from the facts that decide it.
+-- Each rule on a command's fields from the facts that decide it.
 -- Assumes nothing.
 use mathlib.Core.Path.{_≡_, refl}
 use mathlib.Core.Bool.{Bool, true, false, _&&_, cond}
@@ -12,7 +12,7 @@ use Rattle.segment.specs.Segment.{Segment, storedOf}
 use Rattle.segment.proofs.Laws.{sizes}
 use Rattle.command.specs.declared.Command.{Command}
 use Rattle.command.specs.declared.Operation.{Operation}
-use Rattle.admission.specs.Admission.{typeRules, codeRule, isVerify, checkRule, rangeRule, movedOf, sizeRule, bufferOf, bufferRule}
+use Rattle.refusal.specs.Refusal.{typeRules, codeRule, isVerify, checkRule, rangeRule, movedOf, sizeRule, bufferOf, bufferRule}
 
 module _ (d : Description) (c : Command) where
   -- ---- the type rules

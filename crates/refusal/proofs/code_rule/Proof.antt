@@ -1,9 +1,9 @@
--- `admission::code_rule`: the test decides.
+-- `refusal::code_rule`: the test decides.
 -- Assumes nothing.
 use mathlib.Core.Path.{sym}
-use Rattle.admission.proofs.Rules.{code-over, code-fits}
-use Rattle.admission.proofs.code_rule.Statement.{statement}
-use Rattle.admission.proofs.code_rule.Tie as tie
+use Rattle.refusal.proofs.Rules.{code-over, code-fits}
+use Rattle.refusal.proofs.code_rule.Statement.{statement}
+use Rattle.refusal.proofs.code_rule.Tie as tie
 
 returns : tie.Need-returns
 returns c = sym (code-over _ (c .if1 .taken))

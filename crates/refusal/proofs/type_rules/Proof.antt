@@ -1,9 +1,9 @@
--- `admission::type_rules`: each return is one of the rules.
+-- `refusal::type_rules`: each return is one of the rules.
 -- Assumes nothing.
 use mathlib.Core.Path.{sym}
-use Rattle.admission.proofs.Rules.{long-two, long-other, short-two, short-zero, plain-code, short-other}
-use Rattle.admission.proofs.type_rules.Statement.{statement}
-use Rattle.admission.proofs.type_rules.Tie as tie
+use Rattle.refusal.proofs.Rules.{long-two, long-other, short-two, short-zero, plain-code, short-other}
+use Rattle.refusal.proofs.type_rules.Statement.{statement}
+use Rattle.refusal.proofs.type_rules.Tie as tie
 
 returns : tie.Need-returns
 returns c = sym (long-two _ _ (c .before .before .if1 .taken) (c .if2 .taken))

@@ -1,11 +1,11 @@
--- `admission::room`: VERIFY has no buffer.
+-- `refusal::room`: VERIFY has no buffer.
 -- Assumes nothing.
 use mathlib.Core.Path.{sym, ap, _∙_}
-use Rattle.admission.specs.Admission.{isVerify}
-use Rattle.admission.proofs.Rules.{room-verify, room-moved}
+use Rattle.refusal.specs.Refusal.{isVerify}
+use Rattle.refusal.proofs.Rules.{room-verify, room-moved}
 use borrow.Author.Needs.{needs}
-use Rattle.admission.proofs.room.Statement.{statement}
-use Rattle.admission.proofs.room.Tie as tie
+use Rattle.refusal.proofs.room.Statement.{statement}
+use Rattle.refusal.proofs.room.Tie as tie
 
 enum-told : tie.Need-enum-told
 enum-told c = search needs

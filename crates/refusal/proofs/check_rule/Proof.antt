@@ -1,9 +1,9 @@
--- `admission::check_rule`: the bits decide.
+-- `refusal::check_rule`: the bits decide.
 -- Assumes nothing.
 use mathlib.Core.Path.{sym}
-use Rattle.admission.proofs.Rules.{check-zero, check-some}
-use Rattle.admission.proofs.check_rule.Statement.{statement}
-use Rattle.admission.proofs.check_rule.Tie as tie
+use Rattle.refusal.proofs.Rules.{check-zero, check-some}
+use Rattle.refusal.proofs.check_rule.Statement.{statement}
+use Rattle.refusal.proofs.check_rule.Tie as tie
 
 returns : tie.Need-returns
 returns c = sym (check-zero _ (c .if1 .taken))

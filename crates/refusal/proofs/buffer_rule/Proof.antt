@@ -1,10 +1,10 @@
--- `admission::buffer_rule`: the test decides.
+-- `refusal::buffer_rule`: the test decides.
 -- Assumes nothing.
 use mathlib.Core.Path.{sym, _∙_}
-use Rattle.admission.proofs.Rules.{buffer-fits, buffer-unfit}
+use Rattle.refusal.proofs.Rules.{buffer-fits, buffer-unfit}
 use borrow.Author.Needs.{needs}
-use Rattle.admission.proofs.buffer_rule.Statement.{statement}
-use Rattle.admission.proofs.buffer_rule.Tie as tie
+use Rattle.refusal.proofs.buffer_rule.Statement.{statement}
+use Rattle.refusal.proofs.buffer_rule.Tie as tie
 
 returns : tie.Need-returns
 returns c = sym (buffer-fits _ _ _ (c .if1 .taken ∙ c .before .room .ensures))
