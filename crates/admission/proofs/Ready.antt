@@ -11,6 +11,7 @@ use Rattle.words.proofs.Choice.{never}
 use Rattle.answer.specs.Answer.{isGood, orElse}
 use Rattle.answer.specs.declared.Answer.{Answer}
 use Rattle.answer.specs.declared.Answer.the-variants as answers
+use Rattle.answer.specs.declared.Reason.the-variants as reasons
 use Rattle.segment.specs.declared.Description.{Description}
 use Rattle.segment.specs.Segment.{isSegment, Segment, lengthOf}
 use Rattle.segment.proofs.Laws.{segment-facts}
@@ -33,7 +34,7 @@ both-good a b e = by (isGood a) refl e
     by true p q = (p, q)
     by false p q = (q, never (sym p ∙ q))
 
-zero-code : (l e : Bool) → isGood (cond (l && true) answers.Operation (cond (not l && (false && not e)) answers.Operation (cond (true && not e) answers.Field answers.Good))) ≡ true → e ≡ true
+zero-code : (l e : Bool) → isGood (cond (l && true) (answers.Refused reasons.OperationInvalid) (cond (not l && (false && not e)) (answers.Refused reasons.OperationInvalid) (cond (true && not e) (answers.Refused reasons.FieldInvalid) answers.Good))) ≡ true → e ≡ true
 zero-code true e g = never g
 zero-code false true g = refl
 zero-code false false g = never g
@@ -42,7 +43,7 @@ plain-facts : (d : Description) (c : Command) → isGood (typeRules d c) ≡ tru
 unfolding typeRules
 plain-facts d c e k = eqb-true (c .code) 0 (zero-code (c .long) (eqb (c .code) 0) (rw k at e))
 
-fits : (b : Bool) → isGood (cond b answers.Good answers.BufferLength) ≡ true → b ≡ true
+fits : (b : Bool) → isGood (cond b answers.Good (answers.Refused reasons.BufferLengthWrong)) ≡ true → b ≡ true
 fits true e = refl
 fits false e = never e
 
@@ -86,7 +87,7 @@ decoded-ready d (decoded.Refused a) c s b f l e = let z : _≡_ {A = ℕ} 0 1 = 
 pub admitted-ready : (d : Description) (s : ℕ) (command : List ℕ) (b : ℕ) (c : Command) → admitted d s command b ≡ Go c → Ready d c s b
 unfolding admitted
 admitted-ready d s command b c e =
-    let one = not-refused c (not (isSegment d)) answers.Description _ e in
-    let two = not-refused c (not (eqb s (lengthOf d))) answers.Segment _ (one .1) in
+    let one = not-refused c (not (isSegment d)) (answers.Refused reasons.DescriptionBad) _ e in
+    let two = not-refused c (not (eqb s (lengthOf d))) (answers.Refused reasons.SegmentLengthWrong) _ (one .1) in
     decoded-ready d (decode command) c s b (segment-facts d (rw (not-false (isSegment d) (one .0)) tt))
     (eqb-true s (lengthOf d) (not-false (eqb s (lengthOf d)) (two .0))) (two .1)

@@ -5,6 +5,8 @@ use mathlib.Core.List.{List}
 use lib.Dec.{eqb}
 use Rattle.answer.specs.Answer.{isGood}
 use Rattle.answer.specs.declared.Answer.the-variants as answers
+use Rattle.answer.specs.declared.Reason.the-variants as reasons
+use Rattle.answer.specs.declared.Field.the-variants as fields
 use Rattle.segment.specs.declared.Description.{Description}
 use Rattle.segment.specs.Segment.{isSegment, lengthOf}
 use Rattle.command.specs.Command.{decode}
@@ -25,5 +27,5 @@ admitDecoded d (decoded.Refused a) buffer = Refused a
 -- "1; 2", then the command's bytes, then its fields. `segment` and `buffer` are lengths.
 unfoldable pub admitted : Description → ℕ → List ℕ → ℕ → Admitted
 admitted d segment command buffer =
-    cond (not (isSegment d)) (Refused answers.Description)
-    (cond (not (eqb segment (lengthOf d))) (Refused answers.Segment) (admitDecoded d (decode command) buffer))
+    cond (not (isSegment d)) (Refused (answers.Refused reasons.DescriptionBad))
+    (cond (not (eqb segment (lengthOf d))) (Refused (answers.Refused reasons.SegmentLengthWrong)) (admitDecoded d (decode command) buffer))

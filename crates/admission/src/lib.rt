@@ -3,6 +3,7 @@ ghost use mathlib.Core.Path.{_≡_};
 ghost use Rattle.segment.specs.Segment.{Segment};
 ghost use Rattle.admission.specs.Admission.{admitCommand, admitted};
 use answer::Answer;
+use answer::Reason;
 use command::Command;
 use command::Decoded;
 use segment::Description;
@@ -29,10 +30,10 @@ pub fn admit(d: Description, segment: usize, command: &[u8], buffer: usize) -> A
     ensures { λ r. ⌜ r ≡ admitted d segment (now (command .entry)) buffer ⌝ }
 {
     if !segment::fit(d) {
-        return Admitted::Refused(Answer::Description);
+        return Admitted::Refused(Answer::Refused(Reason::DescriptionBad));
     }
     if segment != segment::length(d) {
-        return Admitted::Refused(Answer::Segment);
+        return Admitted::Refused(Answer::Refused(Reason::SegmentLengthWrong));
     }
     let decoded = command::decoded_from(command);
     match decoded {

@@ -1,49 +1,55 @@
--- Each answer's number is one of the table's, with the table's sense; of these 0 is good and no other is.
+-- Each answer's number is one of the table's, with the table's sense; of these 0 is good and no other is. A refusal leaves what was lent.
 -- Assumes nothing.
-use mathlib.Core.Path.{_≡_, refl}
-use mathlib.Core.Bool.{true}
+use mathlib.Core.Path.{_≡_, refl, sym}
+use mathlib.Core.Bool.{true, false}
 use mathlib.Core.List.{map}
 use lib.Dec.{eqb}
-use Rattle.answer.specs.Answer.{numberOf, isGood, senseNumbered, Row, table, inTable}
+use Rattle.answer.specs.Answer.{fieldNumber, reasonNumber, numberOf, isGood, senseNumbered, Row, table, inTable}
+use Rattle.answer.specs.Outcome.{leaving}
 use Rattle.answer.specs.declared.Answer.{Answer}
-use Rattle.answer.specs.declared.Answer.the-variants.{Good, Description, Segment, CommandLength, BufferLength, Operation, Field, Address, Guard, Application, Reference, Stripe, Parameter, Listing, Size}
+use Rattle.answer.specs.declared.Answer.the-variants.{Good, Wrong, Refused}
+use Rattle.answer.specs.declared.Field.{Field}
+use Rattle.answer.specs.declared.Field.the-variants.{Guard, Application, Reference}
+use Rattle.answer.specs.declared.Reason.{Reason}
+use Rattle.answer.specs.declared.Reason.the-variants.{DescriptionBad, SegmentLengthWrong, CommandLengthWrong, BufferLengthWrong, OperationInvalid, FieldInvalid, AddressOutOfRange, StripeShapeBad, ParameterInvalid, ListingRecordBad, TransferTooLarge}
+
+field-there : (f : Field) → (eqb (fieldNumber f) 0 ≡ false) × (inTable (fieldNumber f) ≡ true)
+field-there Guard = (refl, refl)
+field-there Application = (refl, refl)
+field-there Reference = (refl, refl)
+
+reason-there : (r : Reason) → (eqb (reasonNumber r) 0 ≡ false) × (inTable (reasonNumber r) ≡ true)
+reason-there DescriptionBad = (refl, refl)
+reason-there SegmentLengthWrong = (refl, refl)
+reason-there CommandLengthWrong = (refl, refl)
+reason-there BufferLengthWrong = (refl, refl)
+reason-there OperationInvalid = (refl, refl)
+reason-there FieldInvalid = (refl, refl)
+reason-there AddressOutOfRange = (refl, refl)
+reason-there StripeShapeBad = (refl, refl)
+reason-there ParameterInvalid = (refl, refl)
+reason-there ListingRecordBad = (refl, refl)
+reason-there TransferTooLarge = (refl, refl)
 
 -- "0 good": "Any answer but 0" is a refusal
 pub good-is-zero : (a : Answer) → isGood a ≡ eqb (numberOf a) 0
 good-is-zero Good = refl
-good-is-zero Description = refl
-good-is-zero Segment = refl
-good-is-zero CommandLength = refl
-good-is-zero BufferLength = refl
-good-is-zero Operation = refl
-good-is-zero Field = refl
-good-is-zero Address = refl
-good-is-zero (Guard a p) = refl
-good-is-zero (Application a p) = refl
-good-is-zero (Reference a p) = refl
-good-is-zero Stripe = refl
-good-is-zero Parameter = refl
-good-is-zero Listing = refl
-good-is-zero Size = refl
+good-is-zero (Wrong f a p) = sym (field-there f .0)
+good-is-zero (Refused r) = sym (reason-there r .0)
 
 -- "every input gets exactly one answer of the table": whatever the answer is, its number stands there
 pub in-table : (a : Answer) → inTable (numberOf a) ≡ true
 in-table Good = refl
-in-table Description = refl
-in-table Segment = refl
-in-table CommandLength = refl
-in-table BufferLength = refl
-in-table Operation = refl
-in-table Field = refl
-in-table Address = refl
-in-table (Guard a p) = refl
-in-table (Application a p) = refl
-in-table (Reference a p) = refl
-in-table Stripe = refl
-in-table Parameter = refl
-in-table Listing = refl
-in-table Size = refl
+in-table (Wrong f a p) = field-there f .1
+in-table (Refused r) = reason-there r .1
 
 -- "| sense |": of each of the table's numbers the sense that stands in its row
 pub senses-as-listed : map (λ (r : Row). senseNumbered (r .number)) table ≡ map (λ (r : Row). r .sense) table
 senses-as-listed = refl
+
+-- "Any answer but 0 changes no lent byte"
+pub refused-leaves : {L : Type 0} (a : Answer) (old new : L) → isGood (leaving a old new .answer) ≡ false → leaving a old new .left ≡ old
+refused-leaves a old new w = rw w refl
+
+pub good-leaves : {L : Type 0} (a : Answer) (old new : L) → isGood (leaving a old new .answer) ≡ true → leaving a old new .left ≡ new
+good-leaves a old new w = rw w refl

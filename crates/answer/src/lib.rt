@@ -1,24 +1,62 @@
-// The answers of document 01's table, as one enum, and the numbers and senses of the paper.
+// The answers of document 01's table, and the numbers and senses of the paper.
 ghost use mathlib.Core.Path.{_≡_};
-ghost use Rattle.answer.specs.Answer.{numberOf, addressOf, placeOf, isGood, senseNumbered};
+ghost use Rattle.answer.specs.Answer.{fieldNumber, reasonNumber, numberOf, addressOf, placeOf, isGood, senseNumbered};
+
+// A field of an interval.
+pub enum Field {
+    Guard,
+    Application,
+    Reference,
+}
+
+// Why a call is refused, other than for an interval's field. The header has the same names.
+pub enum Reason {
+    DescriptionBad,
+    SegmentLengthWrong,
+    CommandLengthWrong,
+    BufferLengthWrong,
+    OperationInvalid,
+    FieldInvalid,
+    AddressOutOfRange,
+    StripeShapeBad,
+    ParameterInvalid,
+    ListingRecordBad,
+    TransferTooLarge,
+}
 
 pub enum Answer {
     Good,
-    Description,
-    Segment,
-    CommandLength,
-    BufferLength,
-    Operation,
-    Field,
-    Address,
-    // the block's address and the interval's place in the transfer
-    Guard(u64, u64),
-    Application(u64, u64),
-    Reference(u64, u64),
-    Stripe,
-    Parameter,
-    Listing,
-    Size,
+    // the field whose check failed, the block's address and the interval's place in the transfer
+    Wrong(Field, u64, u64),
+    Refused(Reason),
+}
+
+fn field_number(f: Field) -> u64
+    ensures { λ r. ⌜ r ≡ fieldNumber f ⌝ }
+{
+    match f {
+        Field::Guard => 8,
+        Field::Application => 9,
+        Field::Reference => 10,
+    }
+}
+
+fn reason_number(r: Reason) -> u64
+    ensures { λ n. ⌜ n ≡ reasonNumber r ⌝ }
+{
+    match r {
+        Reason::DescriptionBad => 1,
+        Reason::SegmentLengthWrong => 2,
+        Reason::CommandLengthWrong => 3,
+        Reason::BufferLengthWrong => 4,
+        Reason::OperationInvalid => 5,
+        Reason::FieldInvalid => 6,
+        Reason::AddressOutOfRange => 7,
+        Reason::StripeShapeBad => 11,
+        Reason::ParameterInvalid => 12,
+        Reason::ListingRecordBad => 13,
+        Reason::TransferTooLarge => 14,
+    }
 }
 
 // The answer's number.
@@ -27,20 +65,8 @@ pub fn number(a: Answer) -> u64
 {
     match a {
         Answer::Good => 0,
-        Answer::Description => 1,
-        Answer::Segment => 2,
-        Answer::CommandLength => 3,
-        Answer::BufferLength => 4,
-        Answer::Operation => 5,
-        Answer::Field => 6,
-        Answer::Address => 7,
-        Answer::Guard(_, _) => 8,
-        Answer::Application(_, _) => 9,
-        Answer::Reference(_, _) => 10,
-        Answer::Stripe => 11,
-        Answer::Parameter => 12,
-        Answer::Listing => 13,
-        Answer::Size => 14,
+        Answer::Wrong(f, _, _) => field_number(f),
+        Answer::Refused(r) => reason_number(r),
     }
 }
 
@@ -49,21 +75,9 @@ pub fn address(a: Answer) -> u64
     ensures { λ r. ⌜ r ≡ addressOf a ⌝ }
 {
     match a {
-        Answer::Guard(block, _) => block,
-        Answer::Application(block, _) => block,
-        Answer::Reference(block, _) => block,
         Answer::Good => 0,
-        Answer::Description => 0,
-        Answer::Segment => 0,
-        Answer::CommandLength => 0,
-        Answer::BufferLength => 0,
-        Answer::Operation => 0,
-        Answer::Field => 0,
-        Answer::Address => 0,
-        Answer::Stripe => 0,
-        Answer::Parameter => 0,
-        Answer::Listing => 0,
-        Answer::Size => 0,
+        Answer::Wrong(_, block, _) => block,
+        Answer::Refused(_) => 0,
     }
 }
 
@@ -72,21 +86,9 @@ pub fn place(a: Answer) -> u64
     ensures { λ r. ⌜ r ≡ placeOf a ⌝ }
 {
     match a {
-        Answer::Guard(_, interval) => interval,
-        Answer::Application(_, interval) => interval,
-        Answer::Reference(_, interval) => interval,
         Answer::Good => 0,
-        Answer::Description => 0,
-        Answer::Segment => 0,
-        Answer::CommandLength => 0,
-        Answer::BufferLength => 0,
-        Answer::Operation => 0,
-        Answer::Field => 0,
-        Answer::Address => 0,
-        Answer::Stripe => 0,
-        Answer::Parameter => 0,
-        Answer::Listing => 0,
-        Answer::Size => 0,
+        Answer::Wrong(_, _, interval) => interval,
+        Answer::Refused(_) => 0,
     }
 }
 
@@ -95,20 +97,8 @@ pub fn good(a: Answer) -> bool
 {
     match a {
         Answer::Good => true,
-        Answer::Description => false,
-        Answer::Segment => false,
-        Answer::CommandLength => false,
-        Answer::BufferLength => false,
-        Answer::Operation => false,
-        Answer::Field => false,
-        Answer::Address => false,
-        Answer::Stripe => false,
-        Answer::Parameter => false,
-        Answer::Listing => false,
-        Answer::Size => false,
-        Answer::Guard(_, _) => false,
-        Answer::Application(_, _) => false,
-        Answer::Reference(_, _) => false,
+        Answer::Wrong(_, _, _) => false,
+        Answer::Refused(_) => false,
     }
 }
 

@@ -3,6 +3,7 @@ ghost use mathlib.Core.Path.{_≡_};
 ghost use lib.ListN.{length};
 ghost use Rattle.command.specs.Command.{checkBits, recognise, layoutOf, isLong, fields, decodeAs, decode};
 use answer::Answer;
+use answer::Reason;
 
 pub enum Operation {
     Read,
@@ -57,7 +58,7 @@ fn recognised(c: &[u8]) -> Named
     ensures { λ r. ⌜ r ≡ recognise (now (c .entry)) ⌝ }
 {
     if c.len() == 0 {
-        return Named::Unknown(Answer::CommandLength);
+        return Named::Unknown(Answer::Refused(Reason::CommandLengthWrong));
     }
     let first = c[0];
     match first {
@@ -72,17 +73,17 @@ fn recognised(c: &[u8]) -> Named
         0x8F => Named::Known(Operation::Verify, Form::Sixteen),
         0x7F => {
             if c.len() < 10 {
-                return Named::Unknown(Answer::CommandLength);
+                return Named::Unknown(Answer::Refused(Reason::CommandLengthWrong));
             }
             let action = words::read2(c, 8);
             match action {
                 0x0009 => Named::Known(Operation::Read, Form::ThirtyTwo),
                 0x000B => Named::Known(Operation::Write, Form::ThirtyTwo),
                 0x000A => Named::Known(Operation::Verify, Form::ThirtyTwo),
-                _ => Named::Unknown(Answer::Operation),
+                _ => Named::Unknown(Answer::Refused(Reason::OperationInvalid)),
             }
         }
-        _ => Named::Unknown(Answer::Operation),
+        _ => Named::Unknown(Answer::Refused(Reason::OperationInvalid)),
     }
 }
 
@@ -192,11 +193,11 @@ fn decoded_as(o: Operation, f: Form, c: &[u8]) -> Decoded
 {
     let l = laid_out(f);
     if c.len() != l.bytes {
-        return Decoded::Refused(Answer::CommandLength);
+        return Decoded::Refused(Answer::Refused(Reason::CommandLengthWrong));
     }
     if is_long(f) {
         if c[7] != 0x18 {
-            return Decoded::Refused(Answer::Field);
+            return Decoded::Refused(Answer::Refused(Reason::FieldInvalid));
         }
     }
     Decoded::Served(parsed(o, f, c))

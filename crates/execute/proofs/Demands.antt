@@ -14,6 +14,7 @@ use Rattle.words.specs.Parts.{Bytes}
 use Rattle.answer.specs.Answer.{numberOf, isGood, inTable}
 use Rattle.answer.specs.declared.Answer.{Answer}
 use Rattle.answer.specs.declared.Answer.the-variants as answers
+use Rattle.answer.specs.declared.Reason.the-variants as reasons
 use Rattle.answer.proofs.Demands.{in-table}
 use Rattle.segment.specs.declared.Description.{Description}
 use Rattle.segment.specs.Segment.{isSegment, intervalsOf, sizeOf, lengthOf}
@@ -118,7 +119,7 @@ Settled c (Refused a) = isGood a ≡ false
 Settled c (Go k) = k ≡ c
 
 settled : (p q g : Bool) (c : Command) (r : Answer) → isGood r ≡ g
-    → Settled c (cond p (Refused answers.Description) (cond q (Refused answers.Segment) (cond g (Go c) (Refused r))))
+    → Settled c (cond p (Refused (answers.Refused reasons.DescriptionBad)) (cond q (Refused (answers.Refused reasons.SegmentLengthWrong)) (cond g (Go c) (Refused r))))
 settled true q g c r e = refl
 settled false true g c r e = refl
 settled false false true c r e = refl
@@ -251,7 +252,7 @@ module _ (d : Description) (segment writing buffer reading out : List ℕ) (w k 
 
 -- what goes on was served
 served-when : (c : Command) (d : Description) (b : ℕ) (p q : Bool) (x : Decoded)
-    → cond p (Refused answers.Description) (cond q (Refused answers.Segment) (admitDecoded d x b)) ≡ Go c → x ≡ Served c
+    → cond p (Refused (answers.Refused reasons.DescriptionBad)) (cond q (Refused (answers.Refused reasons.SegmentLengthWrong)) (admitDecoded d x b)) ≡ Go c → x ≡ Served c
 served-when c d b true q x e = let z : _≡_ {A = ℕ} 0 1 = cc in absurd (omega arith)
 served-when c d b false true x e = let z : _≡_ {A = ℕ} 0 1 = cc in absurd (omega arith)
 served-when c d b false false (decoded.Refused a) e = let z : _≡_ {A = ℕ} 0 1 = cc in absurd (omega arith)
@@ -386,8 +387,8 @@ unfolding refusal typeRules codeRule checkRule rangeRule sizeRule movedOf buffer
 refusal-same d c b v = rw v
 
 passed : (p q g g′ : Bool) (r r′ : Answer) (c k : Command) → g′ ≡ g
-    → cond p (Refused answers.Description) (cond q (Refused answers.Segment) (cond g (Go c) (Refused r))) ≡ Go c
-    → cond p (Refused answers.Description) (cond q (Refused answers.Segment) (cond g′ (Go k) (Refused r′))) ≡ Go k
+    → cond p (Refused (answers.Refused reasons.DescriptionBad)) (cond q (Refused (answers.Refused reasons.SegmentLengthWrong)) (cond g (Go c) (Refused r))) ≡ Go c
+    → cond p (Refused (answers.Refused reasons.DescriptionBad)) (cond q (Refused (answers.Refused reasons.SegmentLengthWrong)) (cond g′ (Go k) (Refused r′))) ≡ Go k
 passed true q g g′ r r′ c k same e = let z : _≡_ {A = ℕ} 0 1 = cc in absurd (omega arith)
 passed false true g g′ r r′ c k same e = let z : _≡_ {A = ℕ} 0 1 = cc in absurd (omega arith)
 passed false false false g′ r r′ c k same e = let z : _≡_ {A = ℕ} 0 1 = cc in absurd (omega arith)

@@ -9,6 +9,7 @@ use lib.Dec.{lit≤}
 use Rattle.answer.specs.Answer.{isGood}
 use Rattle.answer.specs.declared.Answer.{Answer}
 use Rattle.answer.specs.declared.Answer.the-variants as answers
+use Rattle.answer.specs.declared.Field.the-variants as fields
 use Rattle.segment.specs.declared.Description.{Description}
 use Rattle.segment.specs.Segment.{intervalsOf, sizeOf}
 use Rattle.command.specs.declared.Command.{Command}
@@ -29,8 +30,8 @@ use Rattle.execute.specs.Checked.{Names, FirstWrongInterval}
 -- ---- one interval
 abbrev inTurn : Place → Bool → Bool → Bool → Answer
 inTurn p g a f =
-    cond g (answers.Guard (p .address) (p .interval))
-    (cond a (answers.Application (p .address) (p .interval)) (cond f (answers.Reference (p .address) (p .interval)) answers.Good))
+    cond g (answers.Wrong fields.Guard (p .address) (p .interval))
+    (cond a (answers.Wrong fields.Application (p .address) (p .interval)) (cond f (answers.Wrong fields.Reference (p .address) (p .interval)) answers.Good))
 
 names : (p : Place) (g a f : Bool) → isGood (inTurn p g a f) ≡ false → Names p (inTurn p g a f)
 names p true a f w = record { least = lit≤ tt; most = lit≤ tt; address = refl; place = refl }

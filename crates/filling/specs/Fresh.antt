@@ -7,6 +7,7 @@ use lib.ListN.{length, replicate}
 use Rattle.words.specs.Runs.{runs}
 use Rattle.answer.specs.declared.Answer.{Answer}
 use Rattle.answer.specs.declared.Answer.the-variants as answers
+use Rattle.answer.specs.declared.Reason.the-variants as reasons
 use Rattle.segment.specs.declared.Description.{Description}
 use Rattle.segment.specs.Segment.{isSegment, intervalsOf, sizeOf, lengthOf}
 
@@ -31,5 +32,5 @@ filled a s = record { answer = a; segment = s }
 
 unfoldable pub filledOf : Description → List ℕ → Filled
 filledOf d segment =
-    cond (not (isSegment d)) (filled answers.Description segment)
-    (cond (not (eqb (length segment) (lengthOf d))) (filled answers.Segment segment) (filled answers.Good (fresh d)))
+    cond (not (isSegment d)) (filled (answers.Refused reasons.DescriptionBad) segment)
+    (cond (not (eqb (length segment) (lengthOf d))) (filled (answers.Refused reasons.SegmentLengthWrong) segment) (filled answers.Good (fresh d)))

@@ -4,6 +4,7 @@ ghost use Prim.Native.Nat.{_*_, _+_};
 ghost use lib.ListN.{length};
 ghost use Rattle.filling.specs.Fresh.{filled, filledOf, freshInterval, freshIntervals};
 use answer::Answer;
+use answer::Reason;
 use segment::Description;
 
 // Makes `d` a fresh interval of `size` data bytes: data zero, every field byte FFh.
@@ -35,10 +36,10 @@ pub fn fill(d: Description, segment: &mut [u8]) -> Answer
     ensures { λ r. ⌜ filled r (now (segment .exit)) ≡ filledOf d (now (segment .entry)) ⌝ }
 {
     if !segment::fit(d) {
-        return Answer::Description;
+        return Answer::Refused(Reason::DescriptionBad);
     }
     if segment.len() != segment::length(d) {
-        return Answer::Segment;
+        return Answer::Refused(Reason::SegmentLengthWrong);
     }
     if d.kind == 0 {
         words::fill_with(segment, 0);

@@ -2,6 +2,7 @@
 ghost use mathlib.Core.Path.{_≡_};
 ghost use Rattle.format.specs.Choice.{choiceOf, ranges, sentences, supports, byUsage, illegal};
 use answer::Answer;
+use answer::Reason;
 
 // The answer, and the type that goes with answer 0; a refusal has type 0.
 pub struct Choice {
@@ -25,7 +26,7 @@ fn by_usage(usage: u64, wanted: u64, kind: u64) -> Choice
             kind: kind,
         };
     }
-    refused(Answer::Parameter)
+    refused(Answer::Refused(Reason::ParameterInvalid))
 }
 
 fn supported(protect: u64, spt: u64) -> bool
@@ -71,16 +72,16 @@ fn by_sentences(spt: u64, protect: u64, fmtpinfo: u64, usage: u64) -> Choice
         return by_usage(usage, 0, 0);
     }
     if fmtpinfo == 1 {
-        return refused(Answer::Field);
+        return refused(Answer::Refused(Reason::FieldInvalid));
     }
     if !supported(protect, spt) {
-        return refused(Answer::Field);
+        return refused(Answer::Refused(Reason::FieldInvalid));
     }
     if fmtpinfo == 2 {
         return by_usage(usage, 0, 1);
     }
     if spt == 0 {
-        return refused(Answer::Field);
+        return refused(Answer::Refused(Reason::FieldInvalid));
     }
     if spt == 1 {
         return by_usage(usage, 0, 2);
@@ -95,5 +96,5 @@ pub fn choose(spt: u64, protect: u64, fmtpinfo: u64, usage: u64) -> Choice
     if in_range(spt, protect, fmtpinfo, usage) {
         return by_sentences(spt, protect, fmtpinfo, usage);
     }
-    refused(Answer::Field)
+    refused(Answer::Refused(Reason::FieldInvalid))
 }

@@ -9,16 +9,17 @@ use borrow.Author.Tests.{eqb-true, eqb-false, ltb-true, ltb-false}
 use lib.Dec.{eqb, ltb}
 use Rattle.answer.specs.declared.Answer.{Answer}
 use Rattle.answer.specs.declared.Answer.the-variants as answers
+use Rattle.answer.specs.declared.Reason.the-variants as reasons
 use Rattle.segment.specs.declared.Description.{Description}
 use Rattle.command.specs.declared.Command.{Command}
 use Rattle.refusal.specs.Refusal.{typeRules, codeRule}
 use Rattle.refusal.proofs.Rules.{long-two, long-other, short-two, short-zero, short-other, code-over, code-fits}
 use Rattle.fresh.specs.Allowed.{Allowed}
 
-no-operation : (a : Answer) → a ≡ answers.Operation → a ≡ answers.Good → ⊥
+no-operation : (a : Answer) → a ≡ (answers.Refused reasons.OperationInvalid) → a ≡ answers.Good → ⊥
 no-operation a o g = let z : _≡_ {A = ℕ} 0 1 = cc in omega arith
 
-no-field : (a : Answer) → a ≡ answers.Field → a ≡ answers.Good → ⊥
+no-field : (a : Answer) → a ≡ (answers.Refused reasons.FieldInvalid) → a ≡ answers.Good → ⊥
 no-field a f g = let z : _≡_ {A = ℕ} 0 1 = cc in omega arith
 
 module _ (d : Description) (c : Command) (fields : d .kind ≡ 0 → ⊥) where

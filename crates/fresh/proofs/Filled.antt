@@ -10,6 +10,7 @@ use borrow.Author.Tests.{ne-eqb, not-false}
 use lib.Dec.{eqb}
 use lib.ListN.{length}
 use Rattle.answer.specs.declared.Answer.the-variants as answers
+use Rattle.answer.specs.declared.Reason.the-variants as reasons
 use Rattle.segment.specs.declared.Description.{Description}
 use Rattle.segment.specs.Segment.{isSegment, Segment, intervalsOf, sizeOf, storedOf, lengthOf}
 use Rattle.segment.proofs.Laws.{segment-facts, stored-intervals}
@@ -41,7 +42,7 @@ module _ (d : Description) (s : Segment d) (fields : d .kind ≡ 0 → ⊥) wher
 
 -- ---- what was filled
 abbrev chosen : Bool → Bool → List ℕ → List ℕ → Filled
-chosen p q old new = cond p (filled answers.Description old) (cond q (filled answers.Segment old) (filled answers.Good new))
+chosen p q old new = cond p (filled (answers.Refused reasons.DescriptionBad) old) (cond q (filled (answers.Refused reasons.SegmentLengthWrong) old) (filled answers.Good new))
 
 chosen-good : (p q : Bool) (old new : List ℕ) → chosen p q old new .answer ≡ answers.Good → (p ≡ false) × (chosen p q old new .segment ≡ new)
 chosen-good true q old new g = let z : _≡_ {A = ℕ} 0 1 = cc in absurd (omega arith)

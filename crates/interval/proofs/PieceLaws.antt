@@ -10,6 +10,7 @@ use Rattle.words.proofs.Choice.{never}
 use Rattle.answer.specs.Answer.{numberOf}
 use Rattle.answer.specs.declared.Answer.{Answer}
 use Rattle.answer.specs.declared.Answer.the-variants as answers
+use Rattle.answer.specs.declared.Field.the-variants as fields
 use Rattle.interval.specs.declared.Rules.{Rules}
 use Rattle.interval.specs.declared.Place.{Place}
 use Rattle.interval.specs.Verdict.{Verdict}
@@ -32,7 +33,7 @@ not-true : {G : Type 0} → true ≡ false → G
 not-true t = absurd (true≢false t)
 
 in-order : (g a f : Bool) (x y : ℕ)
-    → Verdict g a f x y (cond g (answers.Guard x y) (cond a (answers.Application x y) (cond f (answers.Reference x y) answers.Good)))
+    → Verdict g a f x y (cond g (answers.Wrong fields.Guard x y) (cond a (answers.Wrong fields.Application x y) (cond f (answers.Wrong fields.Reference x y) answers.Good)))
 in-order true a f x y =
     record {
       guard = (λ e. refl, λ t. refl);

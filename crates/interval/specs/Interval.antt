@@ -9,6 +9,7 @@ use Rattle.words.specs.BigEndian.{numberAt}
 use Rattle.guard.specs.Guard.{guard}
 use Rattle.answer.specs.declared.Answer.{Answer}
 use Rattle.answer.specs.declared.Answer.the-variants as answers
+use Rattle.answer.specs.declared.Field.the-variants as fields
 use Rattle.interval.specs.declared.Escape.{Escape}
 use Rattle.interval.specs.declared.Escape.the-variants.{Never, Tag, Both}
 use Rattle.interval.specs.declared.Rules.{Rules}
@@ -56,9 +57,9 @@ referenceWrong r p f = r .reference && not (eqb (storedReference f) (p .tag))
 -- "in one interval guard, application, reference"
 unfoldable pub judgePieces : Rules → Place → List ℕ → List ℕ → Answer
 judgePieces r p d f =
-    cond (guardWrong r d f) (answers.Guard (p .address) (p .interval))
-    (cond (applicationWrong r f) (answers.Application (p .address) (p .interval))
-    (cond (referenceWrong r p f) (answers.Reference (p .address) (p .interval)) answers.Good))
+    cond (guardWrong r d f) (answers.Wrong fields.Guard (p .address) (p .interval))
+    (cond (applicationWrong r f) (answers.Wrong fields.Application (p .address) (p .interval))
+    (cond (referenceWrong r p f) (answers.Wrong fields.Reference (p .address) (p .interval)) answers.Good))
 
 unfoldable pub judgeInterval : Rules → Place → List ℕ → Answer
 judgeInterval r p s = judgePieces r p (dataOf (r .size) s) (fieldOf (r .size) s)

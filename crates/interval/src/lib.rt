@@ -5,6 +5,7 @@ ghost use lib.ListN.{length};
 ghost use Rattle.guard.specs.Table.{Right};
 ghost use Rattle.interval.specs.Interval.{escapes, anyEscapes, guardWrong, applicationWrong, referenceWrong, judgePieces};
 use answer::Answer;
+use answer::Field;
 
 // What lifts all checks from a block: nothing, an application tag FFFFh, or that with a reference tag FFFFFFFFh.
 pub enum Escape {
@@ -110,13 +111,13 @@ pub fn judge_pieces(t: &[u16; 256], r: Rules, p: Place, data: &[u8], field: &[u8
     ensures { λ a. ⌜ a ≡ judgePieces r p (now («data» .entry)) (now (field .entry)) ⌝ }
 {
     if guard_wrong(t, r, data, field) {
-        return Answer::Guard(p.address, p.interval);
+        return Answer::Wrong(Field::Guard, p.address, p.interval);
     }
     if application_wrong(r, field) {
-        return Answer::Application(p.address, p.interval);
+        return Answer::Wrong(Field::Application, p.address, p.interval);
     }
     if reference_wrong(r, p, field) {
-        return Answer::Reference(p.address, p.interval);
+        return Answer::Wrong(Field::Reference, p.address, p.interval);
     }
     Answer::Good
 }

@@ -11,6 +11,8 @@ use lib.ListN.{take, drop}
 use Rattle.answer.specs.Answer.{isGood, orElse}
 use Rattle.answer.specs.declared.Answer.{Answer}
 use Rattle.answer.specs.declared.Answer.the-variants as answers
+use Rattle.answer.specs.declared.Reason.the-variants as reasons
+use Rattle.answer.specs.declared.Field.the-variants as fields
 use Rattle.interval.proofs.TurnLaws.{pieceAt, piece-zero, piece-suc, all-of, turn-of, own-of, every-of}
 use Rattle.judge.specs.FirstOf.{firstOf}
 
@@ -19,20 +21,20 @@ use Rattle.judge.specs.FirstOf.{firstOf}
 -- an answer is the good one, or no good one
 pub good-or : (a : Answer) → (a ≡ answers.Good) ⊎ (isGood a ≡ false)
 good-or answers.Good = inl refl
-good-or answers.Description = inr refl
-good-or answers.Segment = inr refl
-good-or answers.CommandLength = inr refl
-good-or answers.BufferLength = inr refl
-good-or answers.Operation = inr refl
-good-or answers.Field = inr refl
-good-or answers.Address = inr refl
-good-or (answers.Guard a p) = inr refl
-good-or (answers.Application a p) = inr refl
-good-or (answers.Reference a p) = inr refl
-good-or answers.Stripe = inr refl
-good-or answers.Parameter = inr refl
-good-or answers.Listing = inr refl
-good-or answers.Size = inr refl
+good-or (answers.Refused reasons.DescriptionBad) = inr refl
+good-or (answers.Refused reasons.SegmentLengthWrong) = inr refl
+good-or (answers.Refused reasons.CommandLengthWrong) = inr refl
+good-or (answers.Refused reasons.BufferLengthWrong) = inr refl
+good-or (answers.Refused reasons.OperationInvalid) = inr refl
+good-or (answers.Refused reasons.FieldInvalid) = inr refl
+good-or (answers.Refused reasons.AddressOutOfRange) = inr refl
+good-or (answers.Wrong fields.Guard a p) = inr refl
+good-or (answers.Wrong fields.Application a p) = inr refl
+good-or (answers.Wrong fields.Reference a p) = inr refl
+good-or (answers.Refused reasons.StripeShapeBad) = inr refl
+good-or (answers.Refused reasons.ParameterInvalid) = inr refl
+good-or (answers.Refused reasons.ListingRecordBad) = inr refl
+good-or (answers.Refused reasons.TransferTooLarge) = inr refl
 
 pub not-both : (a : Answer) → a ≡ answers.Good → isGood a ≡ false → ⊥
 not-both a g w = true≢false (sym (ap isGood g) ∙ w)

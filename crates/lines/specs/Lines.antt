@@ -6,6 +6,8 @@ use mathlib.Core.Path.{_≡_}
 use lib.ListN.{length, drop}
 use Rattle.answer.specs.declared.Answer.{Answer}
 use Rattle.answer.specs.declared.Answer.the-variants as answers
+use Rattle.answer.specs.declared.Reason.the-variants as reasons
+use Rattle.answer.specs.declared.Field.the-variants as fields
 use Rattle.interval.specs.declared.Rules.{Rules}
 use Rattle.interval.specs.declared.Place.{Place}
 use Rattle.interval.specs.Interval.{storedGuard, storedApplication, storedReference, fieldOf, anyEscapes, judgeInterval}
@@ -20,20 +22,20 @@ use Rattle.lines.specs.declared.State.the-variants.{Skipped, Guard, Ref,
 -- what judging says of an interval, as a word of the listing
 abbrev pub worded : Answer → State
 worded answers.Good = Ok
-worded answers.Description = Ok
-worded answers.Segment = Ok
-worded answers.CommandLength = Ok
-worded answers.BufferLength = Ok
-worded answers.Operation = Ok
-worded answers.Field = Ok
-worded answers.Address = Ok
-worded (answers.Guard a p) = Guard
-worded (answers.Application a p) = Ok
-worded (answers.Reference a p) = Ref
-worded answers.Stripe = Ok
-worded answers.Parameter = Ok
-worded answers.Listing = Ok
-worded answers.Size = Ok
+worded (answers.Refused reasons.DescriptionBad) = Ok
+worded (answers.Refused reasons.SegmentLengthWrong) = Ok
+worded (answers.Refused reasons.CommandLengthWrong) = Ok
+worded (answers.Refused reasons.BufferLengthWrong) = Ok
+worded (answers.Refused reasons.OperationInvalid) = Ok
+worded (answers.Refused reasons.FieldInvalid) = Ok
+worded (answers.Refused reasons.AddressOutOfRange) = Ok
+worded (answers.Wrong fields.Guard a p) = Guard
+worded (answers.Wrong fields.Application a p) = Ok
+worded (answers.Wrong fields.Reference a p) = Ref
+worded (answers.Refused reasons.StripeShapeBad) = Ok
+worded (answers.Refused reasons.ParameterInvalid) = Ok
+worded (answers.Refused reasons.ListingRecordBad) = Ok
+worded (answers.Refused reasons.TransferTooLarge) = Ok
 
 -- "State is `skipped` under the escape, else `guard`, else `ref` .., else `ok`."
 unfoldable pub stateOf : Rules → Bool → Place → List ℕ → State

@@ -6,6 +6,8 @@ ghost use Rattle.guard.specs.Table.{Right};
 ghost use Rattle.text.specs.Laid.{Written};
 ghost use Rattle.lines.specs.Lines.{worded, stateOf, lineOf, faulty, skips, stateText, lineText, numbersText};
 use answer::Answer;
+use answer::Field;
+use answer::Reason;
 use interval::Place;
 use interval::Rules;
 
@@ -41,20 +43,20 @@ fn worded(a: Answer) -> State
 {
     match a {
         Answer::Good => State::Ok,
-        Answer::Description => State::Ok,
-        Answer::Segment => State::Ok,
-        Answer::CommandLength => State::Ok,
-        Answer::BufferLength => State::Ok,
-        Answer::Operation => State::Ok,
-        Answer::Field => State::Ok,
-        Answer::Address => State::Ok,
-        Answer::Guard(_, _) => State::Guard,
-        Answer::Application(_, _) => State::Ok,
-        Answer::Reference(_, _) => State::Ref,
-        Answer::Stripe => State::Ok,
-        Answer::Parameter => State::Ok,
-        Answer::Listing => State::Ok,
-        Answer::Size => State::Ok,
+        Answer::Refused(Reason::DescriptionBad) => State::Ok,
+        Answer::Refused(Reason::SegmentLengthWrong) => State::Ok,
+        Answer::Refused(Reason::CommandLengthWrong) => State::Ok,
+        Answer::Refused(Reason::BufferLengthWrong) => State::Ok,
+        Answer::Refused(Reason::OperationInvalid) => State::Ok,
+        Answer::Refused(Reason::FieldInvalid) => State::Ok,
+        Answer::Refused(Reason::AddressOutOfRange) => State::Ok,
+        Answer::Wrong(Field::Guard, _, _) => State::Guard,
+        Answer::Wrong(Field::Application, _, _) => State::Ok,
+        Answer::Wrong(Field::Reference, _, _) => State::Ref,
+        Answer::Refused(Reason::StripeShapeBad) => State::Ok,
+        Answer::Refused(Reason::ParameterInvalid) => State::Ok,
+        Answer::Refused(Reason::ListingRecordBad) => State::Ok,
+        Answer::Refused(Reason::TransferTooLarge) => State::Ok,
     }
 }
 

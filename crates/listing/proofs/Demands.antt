@@ -10,6 +10,7 @@ use lib.ListN.{length, drop, length-append, length-drop}
 use Rattle.answer.specs.Answer.{numberOf, isGood}
 use Rattle.answer.specs.declared.Answer.{Answer}
 use Rattle.answer.specs.declared.Answer.the-variants as answers
+use Rattle.answer.specs.declared.Field.the-variants as fields
 use Rattle.segment.specs.declared.Description.{Description}
 use Rattle.segment.specs.Segment.{Segment, intervalsOf, lengthOf}
 use Rattle.interval.specs.declared.Rules.{Rules}
@@ -58,8 +59,8 @@ and-false false b e = refl
 
 module _ (r : Rules) (plain : r .application ≡ false) where
   fault : (a b : ℕ) (g x : Bool)
-      → (cond g (answers.Guard a b) (cond x (answers.Reference a b) answers.Good) ≡ answers.Good)
-      ↔ (faulty (worded (cond g (answers.Guard a b) (cond x (answers.Reference a b) answers.Good))) ≡ 0)
+      → (cond g (answers.Wrong fields.Guard a b) (cond x (answers.Wrong fields.Reference a b) answers.Good) ≡ answers.Good)
+      ↔ (faulty (worded (cond g (answers.Wrong fields.Guard a b) (cond x (answers.Wrong fields.Reference a b) answers.Good))) ≡ 0)
   fault a b true x = (λ e. let z : _≡_ {A = ℕ} 0 1 = cc in absurd (omega arith), λ e. absurd (omega arith))
   fault a b false true = (λ e. let z : _≡_ {A = ℕ} 0 1 = cc in absurd (omega arith), λ e. absurd (omega arith))
   fault a b false false = (λ e. refl, λ e. refl)

@@ -10,6 +10,7 @@ use borrow.Author.Tests.{eq-eqb}
 use lib.Dec.{eqb, lit<}
 use Rattle.guard.specs.Guard.{guard}
 use Rattle.answer.specs.declared.Answer.the-variants as answers
+use Rattle.answer.specs.declared.Field.the-variants as fields
 use Rattle.segment.specs.declared.Description.{Description}
 use Rattle.segment.specs.Segment.{Segment, intervalsOf, sizeOf}
 use Rattle.interval.specs.declared.Place.{Place}
@@ -27,7 +28,7 @@ abbrev inWords : Bool → Bool → Bool → State
 inWords skipped g r = cond skipped Skipped (cond g Guard (cond r Ref Ok))
 
 worded-is : (a p : ℕ) (g r : Bool)
-    → worded (cond g (answers.Guard a p) (cond false (answers.Application a p) (cond r (answers.Reference a p) answers.Good))) ≡ cond g Guard (cond r Ref Ok)
+    → worded (cond g (answers.Wrong fields.Guard a p) (cond false (answers.Wrong fields.Application a p) (cond r (answers.Wrong fields.Reference a p) answers.Good))) ≡ cond g Guard (cond r Ref Ok)
 worded-is a p true r = refl
 worded-is a p false true = refl
 worded-is a p false false = refl

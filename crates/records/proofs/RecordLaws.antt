@@ -11,6 +11,7 @@ use Rattle.words.specs.BigEndian.{numberAt}
 use Rattle.words.proofs.Choice.{never, or-none}
 use Rattle.answer.specs.Answer.{isGood}
 use Rattle.answer.specs.declared.Answer.the-variants as answers
+use Rattle.answer.specs.declared.Reason.the-variants as reasons
 use Rattle.segment.specs.declared.Description.{Description}
 use Rattle.segment.specs.Segment.{isSegment, Segment, lengthOf}
 use Rattle.segment.proofs.Laws.{segment-facts, is-segment}
@@ -57,7 +58,7 @@ segment-length input = length-drop 19 input
 
 -- ---- the refusals, in order
 module _ (input : List ℕ) {b : Bool} (e : b ≡ frameBad input) where
-  pub record-frame : b ≡ true → answers.Listing ≡ recordAnswer input
+  pub record-frame : b ≡ true → (answers.Refused reasons.ListingRecordBad) ≡ recordAnswer input
   unfolding recordAnswer
   record-frame w = rw (sym e ∙ w)
 
@@ -65,11 +66,11 @@ module _ (input : List ℕ) {b : Bool} (e : b ≡ frameBad input) where
   record-framed w = frame-facts input (sym e ∙ w)
 
   module _ {d : Description} (m : d ≡ describedBy input) where
-    pub record-description : b ≡ false → isSegment d ≡ false → answers.Description ≡ recordAnswer input
+    pub record-description : b ≡ false → isSegment d ≡ false → (answers.Refused reasons.DescriptionBad) ≡ recordAnswer input
     unfolding recordAnswer
     record-description w x = rw (sym e ∙ w, ap isSegment (sym m) ∙ x)
 
-    pub record-segment : b ≡ false → Segment d → (length (segmentIn input) ≡ lengthOf d → ⊥) → answers.Segment ≡ recordAnswer input
+    pub record-segment : b ≡ false → Segment d → (length (segmentIn input) ≡ lengthOf d → ⊥) → (answers.Refused reasons.SegmentLengthWrong) ≡ recordAnswer input
     unfolding recordAnswer
     record-segment w f n =
         let other : eqb (length (segmentIn input)) (lengthOf (describedBy input)) ≡ false = rw (← m) (ne-eqb (length (segmentIn input)) (lengthOf d) n) in
@@ -87,7 +88,7 @@ pub record Whole (input : List ℕ) : Type 0 where
   pub segment : Segment (describedBy input)
   pub length : length (segmentIn input) ≡ lengthOf (describedBy input)
 
-passed : (f s l : Bool) → isGood (cond f answers.Listing (cond (not s) answers.Description (cond (not l) answers.Segment answers.Good))) ≡ true
+passed : (f s l : Bool) → isGood (cond f (answers.Refused reasons.ListingRecordBad) (cond (not s) (answers.Refused reasons.DescriptionBad) (cond (not l) (answers.Refused reasons.SegmentLengthWrong) answers.Good))) ≡ true
     → (f ≡ false) × ((s ≡ true) × (l ≡ true))
 passed true s l e = never e
 passed false false l e = never e

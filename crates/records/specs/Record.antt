@@ -9,6 +9,7 @@ use lib.ListN.{length, getD, drop}
 use Rattle.words.specs.BigEndian.{numberAt}
 use Rattle.answer.specs.declared.Answer.{Answer}
 use Rattle.answer.specs.declared.Answer.the-variants as answers
+use Rattle.answer.specs.declared.Reason.the-variants as reasons
 use Rattle.segment.specs.declared.Description.{Description}
 use Rattle.segment.specs.Segment.{isSegment, lengthOf}
 
@@ -37,9 +38,9 @@ segmentIn input = drop 19 input
 -- "then 1, 2"
 unfoldable pub recordAnswer : List ℕ → Answer
 recordAnswer input =
-    cond (frameBad input) answers.Listing
-    (cond (not (isSegment (describedBy input))) answers.Description
-    (cond (not (eqb (length (segmentIn input)) (lengthOf (describedBy input)))) answers.Segment answers.Good))
+    cond (frameBad input) (answers.Refused reasons.ListingRecordBad)
+    (cond (not (isSegment (describedBy input))) (answers.Refused reasons.DescriptionBad)
+    (cond (not (eqb (length (segmentIn input)) (lengthOf (describedBy input)))) (answers.Refused reasons.SegmentLengthWrong) answers.Good))
 
 -- a record that is not bad, as facts
 pub record Framed (input : List ℕ) : Type 0 where

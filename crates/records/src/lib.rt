@@ -2,6 +2,7 @@
 ghost use mathlib.Core.Path.{_≡_};
 ghost use Rattle.records.specs.Record.{frameBad, Framed, describedBy, recordAnswer};
 use answer::Answer;
+use answer::Reason;
 use segment::Description;
 
 // Whether the record is bad (answer 13): its length L, the bytes that follow, or its version.
@@ -47,14 +48,14 @@ pub fn record_answer(input: &[u8]) -> Answer
     ensures { λ a. ⌜ a ≡ recordAnswer (now (input .entry)) ⌝ }
 {
     if frame_bad(input) {
-        return Answer::Listing;
+        return Answer::Refused(Reason::ListingRecordBad);
     }
     let d = described(input);
     if !segment::fit(d) {
-        return Answer::Description;
+        return Answer::Refused(Reason::DescriptionBad);
     }
     if input.len() - 19 != segment::length(d) {
-        return Answer::Segment;
+        return Answer::Refused(Reason::SegmentLengthWrong);
     }
     Answer::Good
 }

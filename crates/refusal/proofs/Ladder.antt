@@ -10,6 +10,7 @@ use Rattle.words.proofs.Choice.{never}
 use Rattle.answer.specs.Answer.{isGood, orElse}
 use Rattle.answer.specs.declared.Answer.{Answer}
 use Rattle.answer.specs.declared.Answer.the-variants as answers
+use Rattle.answer.specs.declared.Reason.the-variants as reasons
 use Rattle.segment.specs.declared.Description.{Description}
 use Rattle.segment.specs.Segment.{Segment}
 use Rattle.command.specs.declared.Command.{Command}
@@ -24,7 +25,7 @@ module _ (a rule rest : Answer) (g : Bool) (e : a ≡ rule) (t : g ≡ isGood a)
   goes-on n = rw (← e, sym t ∙ not-false g n)
 
 -- ---- what the ladder itself needs: past the address the length is small
-neither : (p q : Bool) → isGood (cond (p || q) answers.Address answers.Good) ≡ true → (p ≡ false) × (q ≡ false)
+neither : (p q : Bool) → isGood (cond (p || q) (answers.Refused reasons.AddressOutOfRange) answers.Good) ≡ true → (p ≡ false) × (q ≡ false)
 neither true q e = never e
 neither false true e = never e
 neither false false e = (refl, refl)

@@ -7,6 +7,7 @@ use native.Mathlib.Nat.{mul-le-mul}
 use borrow.Author.Tests.{lt-ltb, le-ltb, eq-eqb, ne-eqb}
 use lib.Dec.{eqb}
 use Rattle.answer.specs.declared.Answer.the-variants as answers
+use Rattle.answer.specs.declared.Reason.the-variants as reasons
 use Rattle.segment.specs.declared.Description.{Description}
 use Rattle.segment.specs.Segment.{Segment, storedOf}
 use Rattle.segment.proofs.Laws.{sizes}
@@ -20,11 +21,11 @@ module _ (d : Description) (c : Command) where
   unfolding typeRules
   long-two l k = rw (l, k)
 
-  pub long-other : c .long ≡ true → (d .kind ≡ 2 → ⊥) → typeRules d c ≡ answers.Operation
+  pub long-other : c .long ≡ true → (d .kind ≡ 2 → ⊥) → typeRules d c ≡ (answers.Refused reasons.OperationInvalid)
   unfolding typeRules
   long-other l k = rw (l, ne-eqb (d .kind) 2 k)
 
-  pub short-two : c .long ≡ false → d .kind ≡ 2 → (c .code ≡ 0 → ⊥) → typeRules d c ≡ answers.Operation
+  pub short-two : c .long ≡ false → d .kind ≡ 2 → (c .code ≡ 0 → ⊥) → typeRules d c ≡ (answers.Refused reasons.OperationInvalid)
   unfolding typeRules
   short-two l k n = rw (l, k, ne-eqb (c .code) 0 n)
 
@@ -32,13 +33,13 @@ module _ (d : Description) (c : Command) where
   unfolding typeRules
   short-zero l z = rw (l, eq-eqb (c .code) 0 z) (none (eqb (d .kind) 2) (eqb (d .kind) 0))
     where
-      none : (a b : Bool) → cond (a && false) answers.Operation (cond (b && false) answers.Field answers.Good) ≡ answers.Good
+      none : (a b : Bool) → cond (a && false) (answers.Refused reasons.OperationInvalid) (cond (b && false) (answers.Refused reasons.FieldInvalid) answers.Good) ≡ answers.Good
       none true true = refl
       none true false = refl
       none false true = refl
       none false false = refl
 
-  pub plain-code : c .long ≡ false → d .kind ≡ 0 → (c .code ≡ 0 → ⊥) → typeRules d c ≡ answers.Field
+  pub plain-code : c .long ≡ false → d .kind ≡ 0 → (c .code ≡ 0 → ⊥) → typeRules d c ≡ (answers.Refused reasons.FieldInvalid)
   unfolding typeRules
   plain-code l k n = rw (l, k, ne-eqb (c .code) 0 n)
 
@@ -47,11 +48,11 @@ module _ (d : Description) (c : Command) where
   short-other l k n = rw (l, ne-eqb (d .kind) 2 k, ne-eqb (d .kind) 0 n)
 
   -- ---- the address: whole numbers, no wrap
-  pub below : c .address < d .first → rangeRule d c ≡ answers.Address
+  pub below : c .address < d .first → rangeRule d c ≡ (answers.Refused reasons.AddressOutOfRange)
   unfolding rangeRule
   below h = rw (lt-ltb (c .address) (d .first) h)
 
-  pub above : d .first ≤ c .address → d .first + d .count < c .address + c .length → rangeRule d c ≡ answers.Address
+  pub above : d .first ≤ c .address → d .first + d .count < c .address + c .length → rangeRule d c ≡ (answers.Refused reasons.AddressOutOfRange)
   unfolding rangeRule
   above h l = rw (le-ltb (c .address) (d .first) h, lt-ltb (d .first + d .count) (c .address + c .length) l)
 
@@ -71,7 +72,7 @@ module _ (d : Description) (c : Command) where
   pub moved-most : Segment d → c .length ≤ 65536 → (c .length * d .block ≤ 65536 * 4096) × (c .length * storedOf d ≤ 65536 * 4160)
   moved-most s h = (mul-le-mul h (s .most), mul-le-mul h (sizes d s .stored-most))
 
-  pub size-over : 4294967295 < movedOf d c → sizeRule d c ≡ answers.Size
+  pub size-over : 4294967295 < movedOf d c → sizeRule d c ≡ (answers.Refused reasons.TransferTooLarge)
   unfolding sizeRule
   size-over h = rw (lt-ltb 4294967295 (movedOf d c) h)
 
@@ -92,13 +93,13 @@ module _ (d : Description) (c : Command) where
   unfolding bufferRule
   buffer-fits b e = rw (eq-eqb b (bufferOf d c) e)
 
-  pub buffer-unfit : (b : ℕ) → (b ≡ bufferOf d c → ⊥) → bufferRule d c b ≡ answers.BufferLength
+  pub buffer-unfit : (b : ℕ) → (b ≡ bufferOf d c → ⊥) → bufferRule d c b ≡ (answers.Refused reasons.BufferLengthWrong)
   unfolding bufferRule
   buffer-unfit b n = rw (ne-eqb b (bufferOf d c) n)
 
 -- ---- the code and the byte-check bits
 module _ (c : Command) where
-  pub code-over : 0b101 < c .code → codeRule c ≡ answers.Field
+  pub code-over : 0b101 < c .code → codeRule c ≡ (answers.Refused reasons.FieldInvalid)
   unfolding codeRule
   code-over h = rw (lt-ltb 0b101 (c .code) h)
 
@@ -110,6 +111,6 @@ module _ (c : Command) where
   unfolding checkRule
   check-zero z = rw (eq-eqb (c .check) 0 z)
 
-  pub check-some : (c .check ≡ 0 → ⊥) → checkRule c ≡ answers.Field
+  pub check-some : (c .check ≡ 0 → ⊥) → checkRule c ≡ (answers.Refused reasons.FieldInvalid)
   unfolding checkRule
   check-some n = rw (ne-eqb (c .check) 0 n)

@@ -4,6 +4,7 @@ ghost use Prim.Native.Nat.{_≤_};
 ghost use Rattle.segment.specs.Segment.{Segment};
 ghost use Rattle.refusal.specs.Refusal.{typeRules, codeRule, checkRule, rangeRule, movedOf, sizeRule, bufferOf, bufferRule, refusal};
 use answer::Answer;
+use answer::Reason;
 use command::Command;
 use command::Operation;
 use segment::Description;
@@ -15,19 +16,19 @@ fn type_rules(d: Description, c: Command) -> Answer
         if d.kind == 2 {
             return Answer::Good;
         }
-        return Answer::Operation;
+        return Answer::Refused(Reason::OperationInvalid);
     }
     if d.kind == 2 {
         if c.code == 0 {
             return Answer::Good;
         }
-        return Answer::Operation;
+        return Answer::Refused(Reason::OperationInvalid);
     }
     if c.code == 0 {
         return Answer::Good;
     }
     if d.kind == 0 {
-        return Answer::Field;
+        return Answer::Refused(Reason::FieldInvalid);
     }
     Answer::Good
 }
@@ -36,7 +37,7 @@ fn code_rule(c: Command) -> Answer
     ensures { λ r. ⌜ r ≡ codeRule c ⌝ }
 {
     if 0b101 < c.code {
-        return Answer::Field;
+        return Answer::Refused(Reason::FieldInvalid);
     }
     Answer::Good
 }
@@ -47,7 +48,7 @@ fn check_rule(c: Command) -> Answer
     if c.check == 0 {
         return Answer::Good;
     }
-    Answer::Field
+    Answer::Refused(Reason::FieldInvalid)
 }
 
 fn range_rule(d: Description, c: Command) -> Answer
@@ -55,13 +56,13 @@ fn range_rule(d: Description, c: Command) -> Answer
     ensures { λ r. ⌜ r ≡ rangeRule d c ⌝ }
 {
     if c.address < d.first {
-        return Answer::Address;
+        return Answer::Refused(Reason::AddressOutOfRange);
     }
     if d.first + d.count < c.address {
-        return Answer::Address;
+        return Answer::Refused(Reason::AddressOutOfRange);
     }
     if d.first + d.count - c.address < c.length {
-        return Answer::Address;
+        return Answer::Refused(Reason::AddressOutOfRange);
     }
     Answer::Good
 }
@@ -84,7 +85,7 @@ fn size_rule(d: Description, c: Command) -> Answer
     ensures { λ r. ⌜ r ≡ sizeRule d c ⌝ }
 {
     if 4294967295 < moved(d, c) {
-        return Answer::Size;
+        return Answer::Refused(Reason::TransferTooLarge);
     }
     Answer::Good
 }
@@ -97,7 +98,7 @@ fn buffer_rule(d: Description, c: Command, buffer: usize) -> Answer
     if buffer == room(d, c) {
         return Answer::Good;
     }
-    Answer::BufferLength
+    Answer::Refused(Reason::BufferLengthWrong)
 }
 
 // The bytes that the buffer must have.

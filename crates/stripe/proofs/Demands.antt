@@ -21,6 +21,7 @@ use Rattle.guard.specs.Guard.{guard}
 use Rattle.interval.specs.Interval.{dataOf, fieldOf, storedGuard}
 use Rattle.answer.specs.declared.Answer.{Answer}
 use Rattle.answer.specs.declared.Answer.the-variants as answers
+use Rattle.answer.specs.declared.Reason.the-variants as reasons
 use Rattle.segment.specs.declared.Description.{Description}
 use Rattle.segment.specs.Segment.{Segment, isSegment, intervalsOf, sizeOf, storedOf, lengthOf}
 use Rattle.segment.proofs.Laws.{stored-intervals}
@@ -237,7 +238,7 @@ module _ (d : Description) (k : ℕ) (s out parity : List ℕ) (made : striped a
 -- ---- any answer but 0 leaves every lent byte
 
 either : (b c : Bool) (old new : List ℕ) (a : Answer) (l : List ℕ)
-    → striped a l ≡ cond b (striped answers.Description old) (cond c (striped answers.Good new) (striped answers.Stripe old)) → (a ≡ answers.Good → ⊥) → l ≡ old
+    → striped a l ≡ cond b (striped (answers.Refused reasons.DescriptionBad) old) (cond c (striped answers.Good new) (striped (answers.Refused reasons.StripeShapeBad) old)) → (a ≡ answers.Good → ⊥) → l ≡ old
 either true c old new a l e n = ap (λ (y : Striped). y .lent) e
 either false true old new a l e n = absurd (n (ap (λ (y : Striped). y .answer) e))
 either false false old new a l e n = ap (λ (y : Striped). y .lent) e

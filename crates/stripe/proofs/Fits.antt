@@ -10,6 +10,7 @@ use lib.ListN.{length}
 use Rattle.words.proofs.Choice.{and-true, and-left, and-right}
 use Rattle.words.specs.Xor.{xors}
 use Rattle.answer.specs.declared.Answer.the-variants as answers
+use Rattle.answer.specs.declared.Reason.the-variants as reasons
 use Rattle.segment.specs.declared.Description.{Description}
 use Rattle.segment.specs.Segment.{Segment, isSegment, lengthOf}
 use Rattle.parity.specs.Parity.{xorParts, parityOf, rebuiltOf, correctedOf}
@@ -51,16 +52,16 @@ module _ (d : Description) (k : ℕ) (s out : List ℕ) where
   make-only g = let f = good-only d _ out _ g in making (f .0) (f .1 .0) (f .1 .1)
 
   module _ (f : Bool) (e : f ≡ isSegment d) where
-    pub make-bad : not f ≡ true → striped answers.Description out ≡ makeAnswered d k s out
+    pub make-bad : not f ≡ true → striped (answers.Refused reasons.DescriptionBad) out ≡ makeAnswered d k s out
     unfolding makeAnswered
     make-bad n = not-one d _ out _ f e n
 
-    pub make-refused : not f ≡ false → (Making d k s out → ⊥) → striped answers.Stripe out ≡ makeAnswered d k s out
+    pub make-refused : not f ≡ false → (Making d k s out → ⊥) → striped (answers.Refused reasons.StripeShapeBad) out ≡ makeAnswered d k s out
     unfolding makeAnswered
     make-refused n h = no-shape d _ out _ f e n (λ typed t. h (making (is-one d f n e) typed t))
 
     module _ (long : ℕ) (l : long ≡ lengthOf d) (n : not f ≡ false) where
-      pub make-unfit : (length s ≡ k * long → length out ≡ long → ⊥) → striped answers.Stripe out ≡ makeAnswered d k s out
+      pub make-unfit : (length s ≡ k * long → length out ≡ long → ⊥) → striped (answers.Refused reasons.StripeShapeBad) out ≡ makeAnswered d k s out
       make-unfit h = make-refused n (λ m. h (m .whole ∙ ap (λ (x : ℕ). k * x) (sym l)) (m .room ∙ sym l))
 
       pub make-good : (new : List ℕ) → (d .kind ≡ 0 → ⊥) → 1 ≤ k → k ≤ 16 → length s ≡ k * long → length out ≡ long → new ≡ joined (length out) k s 0 []
@@ -103,16 +104,16 @@ module _ (d : Description) (k lost : ℕ) (s out : List ℕ) where
   rebuild-only g = let f = good-only d _ out _ g in rebuilding (f .0) (f .1 .0) (f .1 .1)
 
   module _ (f : Bool) (e : f ≡ isSegment d) where
-    pub rebuild-bad : not f ≡ true → striped answers.Description out ≡ rebuildAnswered d k lost s out
+    pub rebuild-bad : not f ≡ true → striped (answers.Refused reasons.DescriptionBad) out ≡ rebuildAnswered d k lost s out
     unfolding rebuildAnswered
     rebuild-bad n = not-one d _ out _ f e n
 
-    pub rebuild-refused : not f ≡ false → (Rebuilding d k lost s out → ⊥) → striped answers.Stripe out ≡ rebuildAnswered d k lost s out
+    pub rebuild-refused : not f ≡ false → (Rebuilding d k lost s out → ⊥) → striped (answers.Refused reasons.StripeShapeBad) out ≡ rebuildAnswered d k lost s out
     unfolding rebuildAnswered
     rebuild-refused n h = no-shape d _ out _ f e n (λ typed t. h (rebuilding (is-one d f n e) typed t))
 
     module _ (long : ℕ) (l : long ≡ lengthOf d) (n : not f ≡ false) where
-      pub rebuild-unfit : (length s ≡ (k + 1) * long → length out ≡ long → ⊥) → striped answers.Stripe out ≡ rebuildAnswered d k lost s out
+      pub rebuild-unfit : (length s ≡ (k + 1) * long → length out ≡ long → ⊥) → striped (answers.Refused reasons.StripeShapeBad) out ≡ rebuildAnswered d k lost s out
       rebuild-unfit h = rebuild-refused n (λ m. h (m .whole ∙ ap (λ (x : ℕ). (k + 1) * x) (sym l)) (m .room ∙ sym l))
 
       pub rebuild-good : (new : List ℕ) → (d .kind ≡ 0 → ⊥) → 1 ≤ k → k ≤ 16 → lost ≤ k → length s ≡ (k + 1) * long → length out ≡ long
@@ -156,16 +157,16 @@ module _ (d : Description) (old new parity : List ℕ) where
   correct-only g = let f = good-only d _ parity _ g in correcting (f .0) (f .1 .0) (f .1 .1)
 
   module _ (f : Bool) (e : f ≡ isSegment d) where
-    pub correct-bad : not f ≡ true → striped answers.Description parity ≡ correctAnswered d old new parity
+    pub correct-bad : not f ≡ true → striped (answers.Refused reasons.DescriptionBad) parity ≡ correctAnswered d old new parity
     unfolding correctAnswered
     correct-bad n = not-one d _ parity _ f e n
 
-    pub correct-refused : not f ≡ false → (Correcting d old new parity → ⊥) → striped answers.Stripe parity ≡ correctAnswered d old new parity
+    pub correct-refused : not f ≡ false → (Correcting d old new parity → ⊥) → striped (answers.Refused reasons.StripeShapeBad) parity ≡ correctAnswered d old new parity
     unfolding correctAnswered
     correct-refused n h = no-shape d _ parity _ f e n (λ typed t. h (correcting (is-one d f n e) typed t))
 
     module _ (long : ℕ) (l : long ≡ lengthOf d) (n : not f ≡ false) where
-      pub correct-unfit : (length old ≡ long → length new ≡ long → length parity ≡ long → ⊥) → striped answers.Stripe parity ≡ correctAnswered d old new parity
+      pub correct-unfit : (length old ≡ long → length new ≡ long → length parity ≡ long → ⊥) → striped (answers.Refused reasons.StripeShapeBad) parity ≡ correctAnswered d old new parity
       correct-unfit h = correct-refused n (λ m. h (m .old-whole ∙ sym l) (m .new-whole ∙ sym l) (m .room ∙ sym l))
 
       pub correct-good : (left : List ℕ) → (d .kind ≡ 0 → ⊥) → length old ≡ long → length new ≡ long → length parity ≡ long → left ≡ xors (xors parity old) new

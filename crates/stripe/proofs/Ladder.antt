@@ -11,6 +11,7 @@ use lib.Dec.{T, T-not, not-T, eqb, leb, leb→le, le→leb, eqb→eq, eqb-refl}
 use Rattle.words.proofs.Choice.{and-true, and-left, and-right, chosen, not-chosen}
 use Rattle.answer.specs.declared.Answer.{Answer}
 use Rattle.answer.specs.declared.Answer.the-variants as answers
+use Rattle.answer.specs.declared.Reason.the-variants as reasons
 use Rattle.segment.specs.declared.Description.{Description}
 use Rattle.segment.specs.Segment.{Segment, isSegment, lengthOf}
 use Rattle.segment.proofs.Laws.{segment-facts, is-segment, length-most}
@@ -44,15 +45,15 @@ same a b e = rw e (eqb-refl b)
 
 -- ---- the answers
 module _ (d : Description) (shaped : Bool) (old new : List ℕ) (f : Bool) (e : f ≡ isSegment d) where
-  pub not-one : not f ≡ true → striped answers.Description old ≡ stripedOf d shaped old new
+  pub not-one : not f ≡ true → striped (answers.Refused reasons.DescriptionBad) old ≡ stripedOf d shaped old new
   unfolding stripedOf
-  not-one n = sym (chosen (not (isSegment d)) (striped answers.Description old) _ (rw (← e, n) tt))
+  not-one n = sym (chosen (not (isSegment d)) (striped (answers.Refused reasons.DescriptionBad) old) _ (rw (← e, n) tt))
 
-  pub no-shape : not f ≡ false → ((d .kind ≡ 0 → ⊥) → T shaped → ⊥) → striped answers.Stripe old ≡ stripedOf d shaped old new
+  pub no-shape : not f ≡ false → ((d .kind ≡ 0 → ⊥) → T shaped → ⊥) → striped (answers.Refused reasons.StripeShapeBad) old ≡ stripedOf d shaped old new
   unfolding stripedOf
   no-shape n h =
       sym
-      (not-chosen (not (isSegment d)) (striped answers.Description old) _ (λ t. T-not (isSegment d) t (fits d f n e))
+      (not-chosen (not (isSegment d)) (striped (answers.Refused reasons.DescriptionBad) old) _ (λ t. T-not (isSegment d) t (fits d f n e))
       ∙ not-chosen (not (eqb (d .kind) 0) && shaped) (striped answers.Good new) _
       (λ t. h (λ z. T-not (eqb (d .kind) 0) (and-left (not (eqb (d .kind) 0)) shaped t) (same (d .kind) 0 z)) (and-right (not (eqb (d .kind) 0)) shaped t)))
 
@@ -61,18 +62,18 @@ module _ (d : Description) (shaped : Bool) (old new : List ℕ) (f : Bool) (e : 
   shape l n k t m =
       ap (striped answers.Good) m
       ∙ sym
-      (not-chosen (not (isSegment d)) (striped answers.Description old) _ (λ t. T-not (isSegment d) t (fits d f n e))
+      (not-chosen (not (isSegment d)) (striped (answers.Refused reasons.DescriptionBad) old) _ (λ t. T-not (isSegment d) t (fits d f n e))
       ∙ chosen (not (eqb (d .kind) 0) && shaped) (striped answers.Good new) _ (and-true (not (eqb (d .kind) 0)) shaped (not-T (eqb (d .kind) 0) (λ z. k (eqb→eq (d .kind) 0 z))) t))
 
 -- ---- good exactly where there is a segment with fields and the shape is right
-no-description : (a : Answer) → a ≡ answers.Description → a ≡ answers.Good → ⊥
+no-description : (a : Answer) → a ≡ (answers.Refused reasons.DescriptionBad) → a ≡ answers.Good → ⊥
 no-description a n g = let z : _≡_ {A = ℕ} 0 1 = cc in omega arith
 
-no-stripe : (a : Answer) → a ≡ answers.Stripe → a ≡ answers.Good → ⊥
+no-stripe : (a : Answer) → a ≡ (answers.Refused reasons.StripeShapeBad) → a ≡ answers.Good → ⊥
 no-stripe a n g = let z : _≡_ {A = ℕ} 0 1 = cc in omega arith
 
 good-only-if : (b c d : Bool) (old new : List ℕ) (x : Striped)
-    → x ≡ cond (not b) (striped answers.Description old) (cond (not c && d) (striped answers.Good new) (striped answers.Stripe old)) → x .answer ≡ answers.Good → T b × (T (not c) × T d)
+    → x ≡ cond (not b) (striped (answers.Refused reasons.DescriptionBad) old) (cond (not c && d) (striped answers.Good new) (striped (answers.Refused reasons.StripeShapeBad) old)) → x .answer ≡ answers.Good → T b × (T (not c) × T d)
 good-only-if false c d old new x e g = absurd (no-description (x .answer) (ap (λ (y : Striped). y .answer) e) g)
 good-only-if true true d old new x e g = absurd (no-stripe (x .answer) (ap (λ (y : Striped). y .answer) e) g)
 good-only-if true false false old new x e g = absurd (no-stripe (x .answer) (ap (λ (y : Striped). y .answer) e) g)

@@ -7,6 +7,7 @@ use lib.Dec.{eqb, leb}
 use lib.ListN.{length}
 use Rattle.answer.specs.declared.Answer.{Answer}
 use Rattle.answer.specs.declared.Answer.the-variants as answers
+use Rattle.answer.specs.declared.Reason.the-variants as reasons
 use Rattle.segment.specs.declared.Description.{Description}
 use Rattle.segment.specs.Segment.{isSegment, lengthOf}
 use Rattle.parity.specs.Parity.{parityOf, rebuiltOf, correctedOf}
@@ -21,8 +22,8 @@ striped a l = record { answer = a; lent = l }
 -- "Answers 0, 1, then 11 for type 0, k out of range, a lost number above k, or any length unfit."
 unfoldable pub stripedOf : Description → Bool → List ℕ → List ℕ → Striped
 stripedOf d shaped old new =
-    cond (not (isSegment d)) (striped answers.Description old)
-    (cond (not (eqb (d .kind) 0) && shaped) (striped answers.Good new) (striped answers.Stripe old))
+    cond (not (isSegment d)) (striped (answers.Refused reasons.DescriptionBad) old)
+    (cond (not (eqb (d .kind) 0) && shaped) (striped answers.Good new) (striped (answers.Refused reasons.StripeShapeBad) old))
 
 unfoldable pub members : ℕ → Bool
 members k = leb 1 k && leb k 16

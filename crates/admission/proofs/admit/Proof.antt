@@ -7,6 +7,7 @@ use Prim.Native.Nat.{ℕ}
 use borrow.Author.Tests.{eq-eqb, ne-eqb}
 use Rattle.answer.specs.declared.Answer.{Answer}
 use Rattle.answer.specs.declared.Answer.the-variants as answers
+use Rattle.answer.specs.declared.Reason.the-variants as reasons
 use Rattle.segment.specs.declared.Description.{Description}
 use Rattle.segment.specs.Segment.{isSegment, Segment, lengthOf}
 use Rattle.segment.proofs.Laws.{described, undescribed, is-segment}
@@ -20,11 +21,11 @@ use Rattle.admission.proofs.admit.Statement.{statement}
 use Rattle.admission.proofs.admit.Tie as tie
 
 module _ (d : Description) (s : ℕ) (command : List ℕ) (b : ℕ) where
-  not-described : isSegment d ≡ false → admitted d s command b ≡ Refused answers.Description
+  not-described : isSegment d ≡ false → admitted d s command b ≡ Refused (answers.Refused reasons.DescriptionBad)
   unfolding admitted
   not-described n = rw n
 
-  not-whole : Segment d → (s ≡ lengthOf d → ⊥) → admitted d s command b ≡ Refused answers.Segment
+  not-whole : Segment d → (s ≡ lengthOf d → ⊥) → admitted d s command b ≡ Refused (answers.Refused reasons.SegmentLengthWrong)
   unfolding admitted
   not-whole f n = rw (is-segment d f, ne-eqb s (lengthOf d) n)
 

@@ -1,15 +1,24 @@
 -- `answer::sense_numbered`: each arm is a row of the table.
 -- Assumes nothing.
-use mathlib.Core.Path.{_≡_}
+use mathlib.Core.Path.{_≡_, refl}
+use mathlib.Core.Bool.{Bool, true, false, cond}
 use Prim.Native.Nat.{ℕ}
+use lib.Dec.{eqb}
 use borrow.Author.Tests.{ne-eqb}
 use Rattle.answer.specs.Answer.{senseNumbered}
 use Rattle.answer.proofs.sense_numbered.Statement.{statement}
 use Rattle.answer.proofs.sense_numbered.Tie as tie
 
+-- a row without a sense
+plain : (b : Bool) → _≡_ {A = ℕ} (cond b 0 0) 0
+plain true = refl
+plain false = refl
+
 -- a number without a sense
 none : (n : ℕ) → (n ≡ 5 → ⊥) → (n ≡ 6 → ⊥) → (n ≡ 7 → ⊥) → (n ≡ 8 → ⊥) → (n ≡ 9 → ⊥) → (n ≡ 10 → ⊥) → (n ≡ 12 → ⊥) → 0 ≡ senseNumbered n
-none n a b c d e f g = rw (ne-eqb n 5 a, ne-eqb n 6 b, ne-eqb n 7 c, ne-eqb n 8 d, ne-eqb n 9 e, ne-eqb n 10 f, ne-eqb n 12 g)
+none n a b c d e f g =
+    rw (ne-eqb n 5 a, ne-eqb n 6 b, ne-eqb n 7 c, ne-eqb n 8 d, ne-eqb n 9 e, ne-eqb n 10 f, ne-eqb n 12 g, plain (eqb n 14), plain (eqb n 13), plain (eqb n 11),
+    plain (eqb n 4), plain (eqb n 3), plain (eqb n 2), plain (eqb n 1), plain (eqb n 0))
 
 returns : tie.Need-returns
 returns c = rw (c .match .keys1)

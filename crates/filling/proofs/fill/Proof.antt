@@ -9,6 +9,7 @@ use native.Mathlib.Omega.{arith}
 use borrow.Author.Tests.{eq-eqb, ne-eqb}
 use lib.ListN.{length, replicate}
 use Rattle.answer.specs.declared.Answer.the-variants as answers
+use Rattle.answer.specs.declared.Reason.the-variants as reasons
 use Rattle.segment.specs.declared.Description.{Description}
 use Rattle.segment.specs.Segment.{isSegment, Segment, intervalsOf, sizeOf, lengthOf}
 use Rattle.segment.proofs.Laws.{described, undescribed, is-segment, sizes, stored-intervals}
@@ -17,11 +18,11 @@ use borrow.Author.Needs.{needs}
 use Rattle.filling.proofs.fill.Statement.{statement}
 use Rattle.filling.proofs.fill.Tie as tie
 
-refused : (d : Description) (s : List ℕ) → isSegment d ≡ false → filled answers.Description s ≡ filledOf d s
+refused : (d : Description) (s : List ℕ) → isSegment d ≡ false → filled (answers.Refused reasons.DescriptionBad) s ≡ filledOf d s
 unfolding filledOf
 refused d s n = rw n
 
-unfit : (d : Description) (s : List ℕ) → Segment d → (length s ≡ lengthOf d → ⊥) → filled answers.Segment s ≡ filledOf d s
+unfit : (d : Description) (s : List ℕ) → Segment d → (length s ≡ lengthOf d → ⊥) → filled (answers.Refused reasons.SegmentLengthWrong) s ≡ filledOf d s
 unfolding filledOf
 unfit d s f n = rw (is-segment d f, ne-eqb (length s) (lengthOf d) n)
 
