@@ -1,2 +1,4 @@
 pub mod Laws
+pub mod Places
+pub mod Rules
 pub mod Coincide

@@ -1,1 +1,3 @@
 pub mod Segment
+pub mod Rules
+pub mod Places

@@ -1,6 +1,11 @@
-// The description of a segment, by value: which descriptions are segments, and the sizes that follow.
+// The description of a segment, by value: which descriptions are segments, the sizes that follow, and where blocks lie.
 ghost use mathlib.Core.Path.{_≡_};
+ghost use Prim.Native.Nat.{_+_, _≤_};
 ghost use Rattle.segment.specs.Segment.{isSegment, Segment, intervalsOf, sizeOf, storedOf, lengthOf};
+ghost use Rattle.segment.specs.Rules.{descriptionRule, segmentRules};
+ghost use Rattle.segment.specs.Places.{rangeRule, offsetOf, spanOf};
+use answer::Answer;
+use answer::Reason;
 
 // Type P, block length B, exponent e, first address W, count N and ATO, as wide as a caller can pass them.
 pub struct Description {
@@ -13,7 +18,7 @@ pub struct Description {
 }
 
 // Whether the numbers describe a segment.
-pub fn fit(d: Description) -> bool
+fn is_segment(d: Description) -> bool
     ensures { λ r. ⌜ r ≡ isSegment d ⌝ }
 {
     let kind = d.kind;
@@ -90,4 +95,61 @@ pub fn length(d: Description) -> usize
     ensures { λ r. ⌜ r ≡ lengthOf d ⌝ }
 {
     d.count as usize * stored(d)
+}
+
+// Refusal 1, of numbers that describe no segment.
+pub fn description_rule(d: Description) -> Answer
+    ensures { λ r. ⌜ r ≡ descriptionRule d ⌝ }
+{
+    if is_segment(d) {
+        return Answer::Good;
+    }
+    Answer::Refused(Reason::DescriptionBad)
+}
+
+// Refusals 1 and 2, which every call on a segment of so many bytes begins with.
+pub fn segment_rules(d: Description, bytes: usize) -> Answer
+    ensures { λ r. ⌜ r ≡ segmentRules d bytes ⌝ }
+{
+    let a = description_rule(d);
+    if !answer::good(a) {
+        return a;
+    }
+    if bytes != length(d) {
+        return Answer::Refused(Reason::SegmentLengthWrong);
+    }
+    Answer::Good
+}
+
+// Refusal 7, of `count` blocks from `address` on that are not all of the segment.
+pub fn range_rule(d: Description, address: u64, count: u64) -> Answer
+    requires { ⌜ Segment d ⌝ }
+    ensures { λ r. ⌜ r ≡ rangeRule d address count ⌝ }
+{
+    if address < d.first {
+        return Answer::Refused(Reason::AddressOutOfRange);
+    }
+    if d.first + d.count < address {
+        return Answer::Refused(Reason::AddressOutOfRange);
+    }
+    if d.first + d.count - address < count {
+        return Answer::Refused(Reason::AddressOutOfRange);
+    }
+    Answer::Good
+}
+
+// Where the block of an address begins in the segment.
+pub fn offset(d: Description, address: u64) -> usize
+    requires { ⌜ (Segment d) × (d .first ≤ address) × (address ≤ d .first + d .count) ⌝ }
+    ensures { λ r. ⌜ r ≡ offsetOf d address ⌝ }
+{
+    (address - d.first) as usize * stored(d)
+}
+
+// How many bytes so many blocks have.
+pub fn span(d: Description, count: u64) -> usize
+    requires { ⌜ (Segment d) × (count ≤ 65536) ⌝ }
+    ensures { λ r. ⌜ r ≡ spanOf d count ⌝ }
+{
+    count as usize * stored(d)
 }

@@ -1,12 +1,12 @@
--- `segment::fit`: each refusal denies one fact of a segment, and the last return has them all.
+-- `segment::is_segment`: each refusal denies one fact of a segment, and the last return has them all.
 -- Assumes nothing.
 use mathlib.Core.Path.{sym}
 use mathlib.Core.Logic.{⊎-elim}
 use native.Mathlib.Omega.{arith}
 use Rattle.segment.proofs.Laws.{is-segment, not-segment}
 use borrow.Author.Needs.{needs}
-use Rattle.segment.proofs.fit.Statement.{statement}
-use Rattle.segment.proofs.fit.Tie as tie
+use Rattle.segment.proofs.is_segment.Statement.{statement}
+use Rattle.segment.proofs.is_segment.Tie as tie
 
 returns : tie.Need-returns
 returns c = sym (not-segment _ (λ s. omega arith))
@@ -52,8 +52,8 @@ returns-11 c = sym (is-segment _ (record {
   end = omega arith;
 }))
 
-pub fit-spec : {M : Type 1} → statement M
-fit-spec =
+pub is-segment-spec : {M : Type 1} → statement M
+is-segment-spec =
     tie.close
     (tie.spec
     returns

@@ -1,0 +1,55 @@
+-- What the rules that every call begins with tell.
+-- Assumes nothing.
+use mathlib.Core.Path.{_≡_, refl, sym, _∙_}
+use mathlib.Core.Bool.{Bool, true, false, not}
+use Prim.Native.Nat.{ℕ}
+use borrow.Author.Tests.{eq-eqb, ne-eqb, eqb-true, not-false}
+use lib.Dec.{eqb}
+use Rattle.answer.specs.Answer.{isGood}
+use Rattle.answer.specs.declared.Answer.{Answer}
+use Rattle.answer.specs.declared.Answer.the-variants as answers
+use Rattle.answer.specs.declared.Reason.the-variants as reasons
+use Rattle.answer.proofs.Ladder.{both-good, not-refused, rule-good}
+use Rattle.segment.specs.declared.Description.{Description}
+use Rattle.segment.specs.Segment.{isSegment, Segment, lengthOf}
+use Rattle.segment.specs.Rules.{descriptionRule, lengthRule, segmentRules}
+use Rattle.segment.proofs.Laws.{segment-facts, is-segment}
+
+module _ (d : Description) where
+  pub description-good : isSegment d ≡ true → descriptionRule d ≡ answers.Good
+  unfolding descriptionRule
+  description-good e = rw e
+
+  pub description-bad : isSegment d ≡ false → descriptionRule d ≡ answers.Refused reasons.DescriptionBad
+  unfolding descriptionRule
+  description-bad e = rw e
+
+  pub rule-described : isGood (descriptionRule d) ≡ true → Segment d
+  unfolding descriptionRule
+  rule-described e = segment-facts d (rw (not-false (isSegment d) (not-refused _ _ e)) tt)
+
+  pub described-rule : Segment d → descriptionRule d ≡ answers.Good
+  described-rule s = description-good (is-segment d s)
+
+  module _ (n : ℕ) where
+    pub length-wrong : descriptionRule d ≡ answers.Good → (n ≡ lengthOf d → ⊥) → segmentRules d n ≡ answers.Refused reasons.SegmentLengthWrong
+    unfolding segmentRules lengthRule
+    length-wrong g w = rw (g, ne-eqb n (lengthOf d) w)
+
+    pub length-right : descriptionRule d ≡ answers.Good → n ≡ lengthOf d → segmentRules d n ≡ answers.Good
+    unfolding segmentRules lengthRule
+    length-right g e = rw (g, eq-eqb n (lengthOf d) e)
+
+    pub rules-segment : isGood (segmentRules d n) ≡ true → Segment d × (n ≡ lengthOf d)
+    unfolding segmentRules lengthRule
+    rules-segment e =
+        let two = both-good (descriptionRule d) _ e in
+        (rule-described (two .0), eqb-true n (lengthOf d) (not-false _ (not-refused _ _ (two .1))))
+
+-- what a caller of the rules' functions knows, where they do not refuse
+module _ (d : Description) (a : Answer) (g : Bool) (t : g ≡ isGood a) (n : not g ≡ false) where
+  pub described : a ≡ descriptionRule d → Segment d
+  described e = rule-described d (rule-good a (descriptionRule d) g e t n)
+
+  pub fitting : (length : ℕ) → a ≡ segmentRules d length → Segment d × (length ≡ lengthOf d)
+  fitting length e = rules-segment d length (rule-good a (segmentRules d length) g e t n)
