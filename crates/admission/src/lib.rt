@@ -35,7 +35,7 @@ pub fn admit(d: Description, segment: usize, command: &[u8], buffer: usize) -> A
     if segment != segment::length(d) {
         return Admitted::Refused(Answer::Refused(Reason::SegmentLengthWrong));
     }
-    let decoded = command::decoded_from(command);
+    let decoded = command::decode(command);
     match decoded {
         Decoded::Refused(a) => Admitted::Refused(a),
         Decoded::Served(c) => admit_command(d, c, buffer),

@@ -2,7 +2,7 @@
 -- answers x and y that the contract permits are one, and so is each byte lent to be written, as the calls leave it in s and in t.
 -- Assumes nothing.
 use mathlib.Core.Path.{_≡_, sym, _∙_}
-use Rattle.command.proofs.decoded_from.Reads as decoded-from-reads
+use Rattle.command.proofs.decode.Reads as decode-reads
 
-pub decoded-from : (κs : _) (a : _) (x y : _) (s t : _) → decoded-from-reads.Post κs a x s → decoded-from-reads.Post κs a y t → x ≡ y
-decoded-from κs a x y s t p q = p ∙ sym q
+pub decode : (κs : _) (a : _) (x y : _) (s t : _) → decode-reads.Post κs a x s → decode-reads.Post κs a y t → x ≡ y
+decode κs a x y s t p q = p ∙ sym q

@@ -8,7 +8,6 @@ use borrow.Author.Tests.{eqb-true}
 use lib.Dec.{eqb, ltb}
 use lib.ListN.{length, getD}
 use Rattle.words.specs.BigEndian.{numberAt, number}
-use Rattle.answer.specs.declared.Answer.the-variants as answers
 use Rattle.answer.specs.declared.Reason.the-variants as reasons
 use Rattle.command.specs.declared.Operation.{Operation}
 use Rattle.command.specs.declared.Form.{Form}
@@ -62,8 +61,8 @@ same-operation c c′ long zeroth action = rw (long, zeroth) (by (eqb (getD c′
     short = ltb (length c′) 10
 
     by : (b : Bool) → eqb (getD c′ 0 0) 0x7F ≡ b
-        → cond empty (Unknown (answers.Refused reasons.CommandLengthWrong)) (cond b (cond short (Unknown (answers.Refused reasons.CommandLengthWrong)) (find (numberAt 8 2 c) serviceAction)) (find (getD c′ 0 0) byteZero))
-        ≡ cond empty (Unknown (answers.Refused reasons.CommandLengthWrong)) (cond b (cond short (Unknown (answers.Refused reasons.CommandLengthWrong)) (find (numberAt 8 2 c′) serviceAction)) (find (getD c′ 0 0) byteZero))
+        → cond empty (Unknown reasons.CommandLengthWrong) (cond b (cond short (Unknown reasons.CommandLengthWrong) (find (numberAt 8 2 c) serviceAction)) (find (getD c′ 0 0) byteZero))
+        ≡ cond empty (Unknown reasons.CommandLengthWrong) (cond b (cond short (Unknown reasons.CommandLengthWrong) (find (numberAt 8 2 c′) serviceAction)) (find (getD c′ 0 0) byteZero))
     by true e = rw (same-number 8 2 c c′ (action (eqb-true (getD c′ 0 0) 0x7F e))) refl
     by false e = refl
 

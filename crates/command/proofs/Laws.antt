@@ -15,8 +15,7 @@ use Rattle.words.specs.Parts.{Bytes}
 use Rattle.words.proofs.BigEndian.{number-lt}
 use Rattle.words.proofs.Choice.{unwrong}
 use Rattle.words.proofs.Parts.{part-bytes}
-use Rattle.answer.specs.declared.Answer.{Answer}
-use Rattle.answer.specs.declared.Answer.the-variants as answers
+use Rattle.answer.specs.declared.Reason.{Reason}
 use Rattle.answer.specs.declared.Reason.the-variants as reasons
 use Rattle.command.specs.declared.Operation.{Operation}
 use Rattle.command.specs.declared.Operation.the-variants.{Read, Write, Verify}
@@ -56,13 +55,13 @@ abbrev pub Beside : Type 0 → ℕ → List Row → Type 0
 Beside A v [] = A
 Beside A v (r ∷ rs) = Beside (A × (v ≡ r .value → ⊥)) v rs
 
-pub none : (A : Type 0) (v : ℕ) (rs : List Row) → Beside A v rs → A × (find v rs ≡ Unknown (answers.Refused reasons.OperationInvalid))
+pub none : (A : Type 0) (v : ℕ) (rs : List Row) → Beside A v rs → A × (find v rs ≡ Unknown reasons.OperationInvalid)
 none A v [] a = (a, refl)
 none A v (r ∷ rs) b =
     let rest = none (A × (v ≡ r .value → ⊥)) v rs b in
     (rest .0 .0, rw (ne-eqb v (r .value) (rest .0 .1)) (rest .1))
 
-pub recognise-empty : (c : List ℕ) → length c ≡ 0 → recognise c ≡ Unknown (answers.Refused reasons.CommandLengthWrong)
+pub recognise-empty : (c : List ℕ) → length c ≡ 0 → recognise c ≡ Unknown reasons.CommandLengthWrong
 unfolding recognise
 recognise-empty c h = rw (eq-eqb (length c) 0 h)
 
@@ -71,7 +70,7 @@ module _ (c : List ℕ) (some : length c ≡ 0 → ⊥) where
   unfolding recognise
   recognise-byte n = rw (ne-eqb (length c) 0 some, ne-eqb (getD c 0 0) 0x7F n)
 
-  pub recognise-short : getD c 0 0 ≡ 0x7F → length c < 10 → recognise c ≡ Unknown (answers.Refused reasons.CommandLengthWrong)
+  pub recognise-short : getD c 0 0 ≡ 0x7F → length c < 10 → recognise c ≡ Unknown reasons.CommandLengthWrong
   unfolding recognise
   recognise-short e h = rw (ne-eqb (length c) 0 some, eq-eqb (getD c 0 0) 0x7F e, lt-ltb (length c) 10 h)
 
@@ -100,11 +99,11 @@ asked o f c el es ek ea en et ep em = rw (ek, ea, en, et, ep, em, el, es)
 
 -- ---- the refusals
 module _ (o : Operation) (f : Form) (c : List ℕ) where
-  pub decode-length : (length c ≡ layoutOf f .bytes → ⊥) → decodeAs o f c ≡ Refused (answers.Refused reasons.CommandLengthWrong)
+  pub decode-length : (length c ≡ layoutOf f .bytes → ⊥) → decodeAs o f c ≡ Refused reasons.CommandLengthWrong
   unfolding decodeAs
   decode-length n = rw (ne-eqb (length c) (layoutOf f .bytes) n)
 
-  pub decode-field : length c ≡ layoutOf f .bytes → isLong f ≡ true → (getD c 7 0 ≡ 0x18 → ⊥) → decodeAs o f c ≡ Refused (answers.Refused reasons.FieldInvalid)
+  pub decode-field : length c ≡ layoutOf f .bytes → isLong f ≡ true → (getD c 7 0 ≡ 0x18 → ⊥) → decodeAs o f c ≡ Refused reasons.FieldInvalid
   unfolding decodeAs
   decode-field e l n = rw (eq-eqb (length c) (layoutOf f .bytes) e, l, ne-eqb (getD c 7 0) 0x18 n)
 
@@ -117,12 +116,12 @@ module _ (c : List ℕ) where
   unfolding decode
   decode-known e = rw e
 
-  pub decode-unknown : {a : Answer} → recognise c ≡ Unknown a → decode c ≡ Refused a
+  pub decode-unknown : {a : Reason} → recognise c ≡ Unknown a → decode c ≡ Refused a
   unfolding decode
   decode-unknown e = rw e
 
 -- ---- what a decoded command is within
-served-is : (b₁ b₂ : Bool) (x k : Command) → cond b₁ (Refused (answers.Refused reasons.CommandLengthWrong)) (cond b₂ (Refused (answers.Refused reasons.FieldInvalid)) (Served x)) ≡ Served k → x ≡ k
+served-is : (b₁ b₂ : Bool) (x k : Command) → cond b₁ (Refused reasons.CommandLengthWrong) (cond b₂ (Refused reasons.FieldInvalid) (Served x)) ≡ Served k → x ≡ k
 served-is true b₂ x k e = cc
 served-is false true x k e = cc
 served-is false false x k e = cc

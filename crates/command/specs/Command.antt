@@ -5,7 +5,6 @@ use mathlib.Core.List.{List, [], _∷_}
 use lib.Dec.{eqb, ltb}
 use lib.ListN.{length, getD}
 use Rattle.words.specs.BigEndian.{numberAt}
-use Rattle.answer.specs.declared.Answer.the-variants as answers
 use Rattle.answer.specs.declared.Reason.the-variants as reasons
 use Rattle.command.specs.declared.Operation.{Operation}
 use Rattle.command.specs.declared.Operation.the-variants.{Read, Write, Verify}
@@ -39,15 +38,15 @@ serviceAction = row 0x0009 Read ThirtyTwo ∷ row 0x000B Write ThirtyTwo ∷ row
 
 -- the row of a value, or "not served 5"
 abbrev pub find : ℕ → List Row → Named
-find v [] = Unknown (answers.Refused reasons.OperationInvalid)
+find v [] = Unknown reasons.OperationInvalid
 find v (r ∷ rs) = cond (eqb v (r .value)) (Known (r .operation) (r .form)) (find v rs)
 
 -- "empty command 3; byte 0 not served 5; for 7Fh, fewer than 10 bytes 3, service action not served 5"
 unfoldable pub recognise : List ℕ → Named
 recognise c =
-    cond (eqb (length c) 0) (Unknown (answers.Refused reasons.CommandLengthWrong))
+    cond (eqb (length c) 0) (Unknown reasons.CommandLengthWrong)
     (cond (eqb (getD c 0 0) 0x7F)
-    (cond (ltb (length c) 10) (Unknown (answers.Refused reasons.CommandLengthWrong)) (find (numberAt 8 2 c) serviceAction))
+    (cond (ltb (length c) 10) (Unknown reasons.CommandLengthWrong) (find (numberAt 8 2 c) serviceAction))
     (find (getD c 0 0) byteZero))
 
 -- The table's columns: bytes, where the address and the length stand and how many bytes each has, the protect byte.
@@ -89,12 +88,12 @@ fields o f c =
 -- "length not the command's 3; byte 7 not 18h 6"
 unfoldable pub decodeAs : Operation → Form → List ℕ → Decoded
 decodeAs o f c =
-    cond (not (eqb (length c) (layoutOf f .bytes))) (Refused (answers.Refused reasons.CommandLengthWrong))
-    (cond (isLong f && not (eqb (getD c 7 0) 0x18)) (Refused (answers.Refused reasons.FieldInvalid)) (Served (fields o f c)))
+    cond (not (eqb (length c) (layoutOf f .bytes))) (Refused reasons.CommandLengthWrong)
+    (cond (isLong f && not (eqb (getD c 7 0) 0x18)) (Refused reasons.FieldInvalid) (Served (fields o f c)))
 
 abbrev decodeNamed : Named → List ℕ → Decoded
 decodeNamed (Known o f) c = decodeAs o f c
-decodeNamed (Unknown a) c = Refused a
+decodeNamed (Unknown r) c = Refused r
 
 unfoldable pub decode : List ℕ → Decoded
 decode c = decodeNamed (recognise c) c

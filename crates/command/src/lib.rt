@@ -2,7 +2,6 @@
 ghost use mathlib.Core.Path.{_≡_};
 ghost use lib.ListN.{length};
 ghost use Rattle.command.specs.Command.{checkBits, recognise, layoutOf, isLong, fields, decodeAs, decode};
-use answer::Answer;
 use answer::Reason;
 
 pub enum Operation {
@@ -21,7 +20,7 @@ pub enum Form {
 
 pub enum Named {
     Known(Operation, Form),
-    Unknown(Answer),
+    Unknown(Reason),
 }
 
 // Where the fields of a form stand: its bytes, the address and the bytes it has, the length and the bytes it has, the
@@ -50,15 +49,15 @@ pub struct Command {
 
 pub enum Decoded {
     Served(Command),
-    Refused(Answer),
+    Refused(Reason),
 }
 
 // The operation and the form that byte 0, or the service action, names.
-fn recognised(c: &[u8]) -> Named
+fn recognise(c: &[u8]) -> Named
     ensures { λ r. ⌜ r ≡ recognise (now (c .entry)) ⌝ }
 {
     if c.len() == 0 {
-        return Named::Unknown(Answer::Refused(Reason::CommandLengthWrong));
+        return Named::Unknown(Reason::CommandLengthWrong);
     }
     let first = c[0];
     match first {
@@ -73,22 +72,22 @@ fn recognised(c: &[u8]) -> Named
         0x8F => Named::Known(Operation::Verify, Form::Sixteen),
         0x7F => {
             if c.len() < 10 {
-                return Named::Unknown(Answer::Refused(Reason::CommandLengthWrong));
+                return Named::Unknown(Reason::CommandLengthWrong);
             }
             let action = words::read2(c, 8);
             match action {
                 0x0009 => Named::Known(Operation::Read, Form::ThirtyTwo),
                 0x000B => Named::Known(Operation::Write, Form::ThirtyTwo),
                 0x000A => Named::Known(Operation::Verify, Form::ThirtyTwo),
-                _ => Named::Unknown(Answer::Refused(Reason::OperationInvalid)),
+                _ => Named::Unknown(Reason::OperationInvalid),
             }
         }
-        _ => Named::Unknown(Answer::Refused(Reason::OperationInvalid)),
+        _ => Named::Unknown(Reason::OperationInvalid),
     }
 }
 
 // The row of a form.
-fn laid_out(f: Form) -> Layout
+fn layout_of(f: Form) -> Layout
     ensures { λ r. ⌜ r ≡ layoutOf f ⌝ }
 {
     match f {
@@ -151,11 +150,11 @@ fn check_bits(o: Operation, protects: u8) -> u8
 }
 
 // What the command asks for, given as many bytes as its form has.
-fn parsed(o: Operation, f: Form, c: &[u8]) -> Command
+fn fields(o: Operation, f: Form, c: &[u8]) -> Command
     requires { ⌜ length (now c) ≡ layoutOf f .bytes ⌝ }
     ensures { λ r. ⌜ r ≡ fields o f (now (c .entry)) ⌝ }
 {
-    let l = laid_out(f);
+    let l = layout_of(f);
     let protect = l.protect;
     let protects = c[protect];
     let check = check_bits(o, protects);
@@ -188,27 +187,27 @@ fn parsed(o: Operation, f: Form, c: &[u8]) -> Command
 }
 
 // A command of a known operation and form.
-fn decoded_as(o: Operation, f: Form, c: &[u8]) -> Decoded
+fn decode_as(o: Operation, f: Form, c: &[u8]) -> Decoded
     ensures { λ r. ⌜ r ≡ decodeAs o f (now (c .entry)) ⌝ }
 {
-    let l = laid_out(f);
+    let l = layout_of(f);
     if c.len() != l.bytes {
-        return Decoded::Refused(Answer::Refused(Reason::CommandLengthWrong));
+        return Decoded::Refused(Reason::CommandLengthWrong);
     }
     if is_long(f) {
         if c[7] != 0x18 {
-            return Decoded::Refused(Answer::Refused(Reason::FieldInvalid));
+            return Decoded::Refused(Reason::FieldInvalid);
         }
     }
-    Decoded::Served(parsed(o, f, c))
+    Decoded::Served(fields(o, f, c))
 }
 
 // What a command's bytes ask for, or the refusal. Any bytes may be handed in, also no byte at all.
-pub fn decoded_from(c: &[u8]) -> Decoded
+pub fn decode(c: &[u8]) -> Decoded
     ensures { λ r. ⌜ r ≡ decode (now (c .entry)) ⌝ }
 {
-    match recognised(c) {
-        Named::Known(o, f) => decoded_as(o, f, c),
-        Named::Unknown(a) => Decoded::Refused(a),
+    match recognise(c) {
+        Named::Known(o, f) => decode_as(o, f, c),
+        Named::Unknown(r) => Decoded::Refused(r),
     }
 }

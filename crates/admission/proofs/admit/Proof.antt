@@ -50,10 +50,10 @@ admit-command-requires : tie.Need-admit-command-requires
 admit-command-requires c κs = (described _ _ (c .before .before .before .before .before .before .before .fit .ensures) (c .before .before .before .before .before .before .if1 .left))
 
 returns-3 : tie.Need-returns-3
-returns-3 c = sym (on-refused _ _ _ _ (described _ _ (c .before .before .before .before .before .before .before .fit .ensures) (c .before .before .before .before .before .before .if1 .left)) (c .before .before .before .before .if2 .left ∙ c .before .before .before .before .before .length .ensures) (sym (c .before .before .before .decoded-from .ensures) ∙ c .before .decoded .given .1))
+returns-3 c = sym (on-refused _ _ _ _ (described _ _ (c .before .before .before .before .before .before .before .fit .ensures) (c .before .before .before .before .before .before .if1 .left)) (c .before .before .before .before .if2 .left ∙ c .before .before .before .before .before .length .ensures) (sym (c .before .before .before .decode .ensures) ∙ c .before .decoded .given .1))
 
 returns-4 : tie.Need-returns-4
-returns-4 c = c .admit-command .ensures ∙ sym (on-served _ _ _ _ (described _ _ (c .before .before .before .before .before .before .before .before .fit .ensures) (c .before .before .before .before .before .before .before .if1 .left)) (c .before .before .before .before .before .if2 .left ∙ c .before .before .before .before .before .before .length .ensures) (sym (c .before .before .before .before .decoded-from .ensures) ∙ c .before .before .decoded2 .given .1))
+returns-4 c = c .admit-command .ensures ∙ sym (on-served _ _ _ _ (described _ _ (c .before .before .before .before .before .before .before .before .fit .ensures) (c .before .before .before .before .before .before .before .if1 .left)) (c .before .before .before .before .before .if2 .left ∙ c .before .before .before .before .before .before .length .ensures) (sym (c .before .before .before .before .decode .ensures) ∙ c .before .before .decoded2 .given .1))
 
 pub admit-spec : {M : Type 1} → statement M
 admit-spec =

@@ -1,10 +1,10 @@
--- `command::laid_out`: each form has its row.
+-- `command::layout_of`: each form has its row.
 -- Assumes nothing.
 use mathlib.Core.Path.{sym, ap}
 use Rattle.command.specs.Command.{layoutOf}
 use borrow.Author.Needs.{needs}
-use Rattle.command.proofs.laid_out.Statement.{statement}
-use Rattle.command.proofs.laid_out.Tie as tie
+use Rattle.command.proofs.layout_of.Statement.{statement}
+use Rattle.command.proofs.layout_of.Tie as tie
 
 enum-told : tie.Need-enum-told
 enum-told c = search needs
@@ -21,8 +21,8 @@ returns-3 c = sym (ap layoutOf (c .enum-told3 .given .1))
 returns-4 : tie.Need-returns-4
 returns-4 c = sym (ap layoutOf (c .enum-told4 .given .1))
 
-pub laid-out-spec : {M : Type 1} → statement M
-laid-out-spec =
+pub layout-of-spec : {M : Type 1} → statement M
+layout-of-spec =
     tie.close
     (tie.spec
     enum-told

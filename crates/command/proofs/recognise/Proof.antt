@@ -1,4 +1,4 @@
--- `command::recognised`: the row of byte 0, or of the service action, is the arm that matches.
+-- `command::recognise`: the row of byte 0, or of the service action, is the arm that matches.
 -- Assumes nothing.
 use mathlib.Core.Path.{_≡_, refl, sym, ap, _∙_}
 use mathlib.Core.List.{List}
@@ -9,8 +9,8 @@ use Rattle.words.specs.BigEndian.{numberAt}
 use Rattle.command.specs.Command.{find, byteZero, serviceAction, recognise}
 use Rattle.command.proofs.Laws.{recognise-empty, recognise-byte, recognise-short, recognise-action, none}
 use borrow.Author.Needs.{needs}
-use Rattle.command.proofs.recognised.Statement.{statement}
-use Rattle.command.proofs.recognised.Tie as tie
+use Rattle.command.proofs.recognise.Statement.{statement}
+use Rattle.command.proofs.recognise.Tie as tie
 
 by-byte : (c : List ℕ) (v : ℕ) → (length c ≡ 0 → ⊥) → getD c 0 0 ≡ v → (v ≡ 0x7F → ⊥) → find v byteZero ≡ recognise c
 by-byte c v some e n = ap (λ (k : ℕ). find k byteZero) (sym e) ∙ sym (recognise-byte c some (λ h. n (sym e ∙ h)))
@@ -70,8 +70,8 @@ returns-16 c =
     sym (none Unit (getD (c .before .before .before .before .args .c .now) 0 0) byteZero (c .match .rest .0) .1)
     ∙ by-byte _ _ (c .before .before .if1 .left) refl (c .match .rest .1)
 
-pub recognised-spec : {M : Type 1} → statement M
-recognised-spec =
+pub recognise-spec : {M : Type 1} → statement M
+recognise-spec =
     tie.close
     (tie.spec
     returns
