@@ -18,7 +18,7 @@ fn admit_command(d: Description, c: Command, buffer: usize) -> Admitted
     requires { ⌜ Segment d ⌝ }
     ensures { λ r. ⌜ r ≡ admitCommand d c buffer ⌝ }
 {
-    let a = refusal::refused(d, c, buffer);
+    let a = refusal::refusal(d, c, buffer);
     if answer::good(a) {
         return Admitted::Go(c);
     }

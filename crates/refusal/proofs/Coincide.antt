@@ -2,7 +2,7 @@
 -- answers x and y that the contract permits are one, and so is each byte lent to be written, as the calls leave it in s and in t.
 -- Assumes nothing.
 use mathlib.Core.Path.{_≡_, sym, _∙_}
-use Rattle.refusal.proofs.refused.Reads as refused-reads
+use Rattle.refusal.proofs.refusal.Reads as refusal-reads
 
-pub refused : (κs : _) (a : _) (x y : _) (s t : _) → refused-reads.Post κs a x s → refused-reads.Post κs a y t → x ≡ y
-refused κs a x y s t p q = p ∙ sym q
+pub refusal : (κs : _) (a : _) (x y : _) (s t : _) → refusal-reads.Post κs a x s → refusal-reads.Post κs a y t → x ≡ y
+refusal κs a x y s t p q = p ∙ sym q

@@ -1,19 +1,26 @@
 -- Each rule on a command's fields from the facts that decide it.
 -- Assumes nothing.
 use mathlib.Core.Path.{_≡_, refl}
-use mathlib.Core.Bool.{Bool, true, false, _&&_, cond}
-use Prim.Native.Nat.{ℕ, _+_, _*_, _≤_, _<_}
+use mathlib.Core.Bool.{Bool, true, false, not, _&&_, cond}
+use Prim.Native.Nat.{_*_, _≤_, _<_}
 use native.Mathlib.Nat.{mul-le-mul}
+use native.Mathlib.Omega.{arith}
 use borrow.Author.Tests.{lt-ltb, le-ltb, eq-eqb, ne-eqb}
 use lib.Dec.{eqb}
+use Rattle.answer.specs.Answer.{isGood}
+use Rattle.answer.specs.declared.Answer.{Answer}
 use Rattle.answer.specs.declared.Answer.the-variants as answers
 use Rattle.answer.specs.declared.Reason.the-variants as reasons
+use Rattle.answer.proofs.Ladder.{rule-good}
 use Rattle.segment.specs.declared.Description.{Description}
 use Rattle.segment.specs.Segment.{Segment, storedOf}
+use Rattle.segment.specs.Places.{rangeRule}
 use Rattle.segment.proofs.Laws.{sizes}
+use Rattle.segment.proofs.Places.{range-facts}
 use Rattle.command.specs.declared.Command.{Command}
 use Rattle.command.specs.declared.Operation.{Operation}
-use Rattle.refusal.specs.Refusal.{typeRules, codeRule, isVerify, checkRule, rangeRule, movedOf, sizeRule, bufferOf, bufferRule}
+use Rattle.refusal.specs.declared.Lengths.{Lengths}
+use Rattle.refusal.specs.Refusal.{typeRules, codeRule, isVerify, checkRule, movedOf, sizeRule, bufferOf, bufferRule}
 
 module _ (d : Description) (c : Command) where
   -- ---- the type rules
@@ -47,19 +54,6 @@ module _ (d : Description) (c : Command) where
   unfolding typeRules
   short-other l k n = rw (l, ne-eqb (d .kind) 2 k, ne-eqb (d .kind) 0 n)
 
-  -- ---- the address: whole numbers, no wrap
-  pub below : c .address < d .first → rangeRule d c ≡ (answers.Refused reasons.AddressOutOfRange)
-  unfolding rangeRule
-  below h = rw (lt-ltb (c .address) (d .first) h)
-
-  pub above : d .first ≤ c .address → d .first + d .count < c .address + c .length → rangeRule d c ≡ (answers.Refused reasons.AddressOutOfRange)
-  unfolding rangeRule
-  above h l = rw (le-ltb (c .address) (d .first) h, lt-ltb (d .first + d .count) (c .address + c .length) l)
-
-  pub inside : d .first ≤ c .address → c .address + c .length ≤ d .first + d .count → rangeRule d c ≡ answers.Good
-  unfolding rangeRule
-  inside h l = rw (le-ltb (c .address) (d .first) h, le-ltb (d .first + d .count) (c .address + c .length) l)
-
   -- ---- the bytes moved
   pub moved-plain : c .code ≡ 0 → movedOf d c ≡ c .length * d .block
   unfolding movedOf
@@ -89,13 +83,17 @@ module _ (d : Description) (c : Command) where
   unfolding bufferOf
   room-moved v = rw v
 
-  pub buffer-fits : (b : ℕ) → b ≡ bufferOf d c → bufferRule d c b ≡ answers.Good
+  pub buffer-fits : (l : Lengths) → l .buffer ≡ bufferOf d c → bufferRule d c l ≡ answers.Good
   unfolding bufferRule
-  buffer-fits b e = rw (eq-eqb b (bufferOf d c) e)
+  buffer-fits l e = rw (eq-eqb (l .buffer) (bufferOf d c) e)
 
-  pub buffer-unfit : (b : ℕ) → (b ≡ bufferOf d c → ⊥) → bufferRule d c b ≡ (answers.Refused reasons.BufferLengthWrong)
+  pub buffer-unfit : (l : Lengths) → (l .buffer ≡ bufferOf d c → ⊥) → bufferRule d c l ≡ (answers.Refused reasons.BufferLengthWrong)
   unfolding bufferRule
-  buffer-unfit b n = rw (ne-eqb b (bufferOf d c) n)
+  buffer-unfit l n = rw (ne-eqb (l .buffer) (bufferOf d c) n)
+
+  -- ---- past the address the length is small
+  pub short : (a : Answer) (g : Bool) → Segment d → a ≡ rangeRule d (c .address) (c .length) → g ≡ isGood a → not g ≡ false → c .length ≤ 65536
+  short a g s e t n = let r = range-facts d (c .address) (c .length) (rule-good a _ g e t n) in omega (arith, s .count)
 
 -- ---- the code and the byte-check bits
 module _ (c : Command) where

@@ -2,12 +2,18 @@
 ghost use mathlib.Core.Path.{_≡_};
 ghost use Prim.Native.Nat.{_≤_};
 ghost use Rattle.segment.specs.Segment.{Segment};
-ghost use Rattle.refusal.specs.Refusal.{typeRules, codeRule, checkRule, rangeRule, movedOf, sizeRule, bufferOf, bufferRule, refusal};
+ghost use Rattle.refusal.specs.Refusal.{typeRules, codeRule, checkRule, movedOf, sizeRule, bufferOf, bufferRule, refusal};
 use answer::Answer;
 use answer::Reason;
 use command::Command;
 use command::Operation;
 use segment::Description;
+
+// The lengths of what is lent to a command.
+pub struct Lengths {
+    pub segment: usize,
+    pub buffer: usize,
+}
 
 fn type_rules(d: Description, c: Command) -> Answer
     ensures { λ r. ⌜ r ≡ typeRules d c ⌝ }
@@ -51,22 +57,6 @@ fn check_rule(c: Command) -> Answer
     Answer::Refused(Reason::FieldInvalid)
 }
 
-fn range_rule(d: Description, c: Command) -> Answer
-    requires { ⌜ Segment d ⌝ }
-    ensures { λ r. ⌜ r ≡ rangeRule d c ⌝ }
-{
-    if c.address < d.first {
-        return Answer::Refused(Reason::AddressOutOfRange);
-    }
-    if d.first + d.count < c.address {
-        return Answer::Refused(Reason::AddressOutOfRange);
-    }
-    if d.first + d.count - c.address < c.length {
-        return Answer::Refused(Reason::AddressOutOfRange);
-    }
-    Answer::Good
-}
-
 // The bytes that the transfer moves.
 fn moved(d: Description, c: Command) -> u64
     requires { ⌜ Segment d ⌝ }
@@ -90,19 +80,8 @@ fn size_rule(d: Description, c: Command) -> Answer
     Answer::Good
 }
 
-fn buffer_rule(d: Description, c: Command, buffer: usize) -> Answer
-    requires { ⌜ Segment d ⌝ }
-    requires { ⌜ c .length ≤ 65536 ⌝ }
-    ensures { λ r. ⌜ r ≡ bufferRule d c buffer ⌝ }
-{
-    if buffer == room(d, c) {
-        return Answer::Good;
-    }
-    Answer::Refused(Reason::BufferLengthWrong)
-}
-
 // The bytes that the buffer must have.
-fn room(d: Description, c: Command) -> usize
+fn buffer(d: Description, c: Command) -> usize
     requires { ⌜ Segment d ⌝ }
     requires { ⌜ c .length ≤ 65536 ⌝ }
     ensures { λ r. ⌜ r ≡ bufferOf d c ⌝ }
@@ -115,10 +94,21 @@ fn room(d: Description, c: Command) -> usize
     }
 }
 
-// The first refusal of a command's fields, or good.
-pub fn refused(d: Description, c: Command, buffer: usize) -> Answer
+fn buffer_rule(d: Description, c: Command, lengths: Lengths) -> Answer
     requires { ⌜ Segment d ⌝ }
-    ensures { λ r. ⌜ r ≡ refusal d c buffer ⌝ }
+    requires { ⌜ c .length ≤ 65536 ⌝ }
+    ensures { λ r. ⌜ r ≡ bufferRule d c lengths ⌝ }
+{
+    if lengths.buffer == buffer(d, c) {
+        return Answer::Good;
+    }
+    Answer::Refused(Reason::BufferLengthWrong)
+}
+
+// The first refusal of a command's fields, or good.
+pub fn refusal(d: Description, c: Command, lengths: Lengths) -> Answer
+    requires { ⌜ Segment d ⌝ }
+    ensures { λ r. ⌜ r ≡ refusal d c lengths ⌝ }
 {
     let kind = type_rules(d, c);
     if !answer::good(kind) {
@@ -132,7 +122,7 @@ pub fn refused(d: Description, c: Command, buffer: usize) -> Answer
     if !answer::good(check) {
         return check;
     }
-    let range = range_rule(d, c);
+    let range = segment::range_rule(d, c.address, c.length);
     if !answer::good(range) {
         return range;
     }
@@ -140,5 +130,5 @@ pub fn refused(d: Description, c: Command, buffer: usize) -> Answer
     if !answer::good(size) {
         return size;
     }
-    buffer_rule(d, c, buffer)
+    buffer_rule(d, c, lengths)
 }

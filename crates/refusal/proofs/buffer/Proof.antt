@@ -1,11 +1,11 @@
--- `refusal::room`: VERIFY has no buffer.
+-- `refusal::buffer`: VERIFY has no buffer.
 -- Assumes nothing.
 use mathlib.Core.Path.{sym, ap, _∙_}
 use Rattle.refusal.specs.Refusal.{isVerify}
 use Rattle.refusal.proofs.Rules.{room-verify, room-moved}
 use borrow.Author.Needs.{needs}
-use Rattle.refusal.proofs.room.Statement.{statement}
-use Rattle.refusal.proofs.room.Tie as tie
+use Rattle.refusal.proofs.buffer.Statement.{statement}
+use Rattle.refusal.proofs.buffer.Tie as tie
 
 enum-told : tie.Need-enum-told
 enum-told c = search needs
@@ -19,8 +19,8 @@ returns-2 c = c .moved2 .ensures ∙ sym (room-moved _ _ (ap isVerify (c .before
 returns-3 : tie.Need-returns-3
 returns-3 c = sym (room-verify _ _ (ap isVerify (c .enum-told3 .given .1)))
 
-pub room-spec : {M : Type 1} → statement M
-room-spec =
+pub buffer-spec : {M : Type 1} → statement M
+buffer-spec =
     tie.close
     (tie.spec
     enum-told

@@ -1,13 +1,15 @@
--- `refusal::refused`: rule after rule; the first that refuses answers.
+-- `refusal::refusal`: rule after rule; the first that refuses answers.
 -- Assumes nothing.
 use mathlib.Core.Path.{_≡_, sym, _∙_}
 use Rattle.answer.specs.Answer.{orElse}
 use Rattle.answer.specs.declared.Answer.{Answer}
-use Rattle.refusal.specs.Refusal.{codeRule, checkRule, rangeRule, sizeRule, bufferRule, refusal}
-use Rattle.refusal.proofs.Ladder.{stops, goes-on, short}
+use Rattle.answer.proofs.Ladder.{stops, goes-on}
+use Rattle.segment.specs.Places.{rangeRule}
+use Rattle.refusal.specs.Refusal.{codeRule, checkRule, sizeRule, bufferRule, refusal}
+use Rattle.refusal.proofs.Rules.{short}
 use borrow.Author.Needs.{needs}
-use Rattle.refusal.proofs.refused.Statement.{statement}
-use Rattle.refusal.proofs.refused.Tie as tie
+use Rattle.refusal.proofs.refusal.Statement.{statement}
+use Rattle.refusal.proofs.refusal.Tie as tie
 
 -- where the function began, seen from below each rule
 abbrev from1 : tie.Else1 → tie.Start
@@ -24,10 +26,10 @@ from4 c = from3 (c .before .before .before)
 
 -- the ladder as it goes on below each rule
 abbrev sizes : tie.Start → Answer
-sizes s = orElse (sizeRule (s .args .d) (s .args .c)) (bufferRule (s .args .d) (s .args .c) (s .args .buffer))
+sizes s = orElse (sizeRule (s .args .d) (s .args .c)) (bufferRule (s .args .d) (s .args .c) (s .args .lengths))
 
 abbrev ranges : tie.Start → Answer
-ranges s = orElse (rangeRule (s .args .d) (s .args .c)) (sizes s)
+ranges s = orElse (rangeRule (s .args .d) (s .args .c .address) (s .args .c .length)) (sizes s)
 
 abbrev checks : tie.Start → Answer
 checks s = orElse (checkRule (s .args .c)) (ranges s)
@@ -36,7 +38,7 @@ abbrev codes : tie.Start → Answer
 codes s = orElse (codeRule (s .args .c)) (checks s)
 
 abbrev all : tie.Start → Answer
-all s = refusal (s .args .d) (s .args .c) (s .args .buffer)
+all s = refusal (s .args .d) (s .args .c) (s .args .lengths)
 
 below1 : (c : tie.Else1) → all (from1 c) ≡ codes (from1 c)
 unfolding refusal
@@ -65,7 +67,7 @@ returns-4 : tie.Need-returns-4
 returns-4 c = sym (below3 (c .before .before .before) ∙ stops _ _ _ _ (c .before .before .range-rule .ensures) (c .before .good5 .ensures) (c .if4 .taken))
 
 size-rule-requires : tie.Need-size-rule-requires
-size-rule-requires c κs = (from4 c .pre, short _ _ _ _ (from4 c .pre) (c .before .before .range-rule .ensures) (c .before .good5 .ensures) (c .if4 .left))
+size-rule-requires c κs = (from4 c .pre, short _ (from4 c .args .c) _ _ (from4 c .pre) (c .before .before .range-rule .ensures) (c .before .good5 .ensures) (c .if4 .left))
 
 returns-5 : tie.Need-returns-5
 returns-5 c = sym (below4 (c .before .before .before) ∙ stops _ _ _ _ (c .before .before .size-rule .ensures) (c .before .good6 .ensures) (c .if5 .taken))
@@ -78,8 +80,8 @@ returns-6 c =
     let last = c .before in
     c .buffer-rule .ensures ∙ sym (below4 (last .before .before .before) ∙ goes-on _ _ _ _ (last .before .before .size-rule .ensures) (last .before .good6 .ensures) (last .if5 .left))
 
-pub refused-spec : {M : Type 1} → statement M
-refused-spec =
+pub refusal-spec : {M : Type 1} → statement M
+refusal-spec =
     tie.close
     (tie.spec
     (λ c κs. search needs) (λ c κs. search needs)
