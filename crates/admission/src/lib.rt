@@ -3,9 +3,9 @@ ghost use mathlib.Core.Path.{_≡_};
 ghost use Rattle.segment.specs.Segment.{Segment};
 ghost use Rattle.admission.specs.Admission.{admitCommand, admitted};
 use answer::Answer;
-use answer::Reason;
 use command::Command;
 use command::Decoded;
+use refusal::Lengths;
 use segment::Description;
 
 // What admission decides: the refusal, or the command that goes on.
@@ -14,11 +14,11 @@ pub enum Admitted {
     Go(Command),
 }
 
-fn admit_command(d: Description, c: Command, buffer: usize) -> Admitted
+fn admit_command(d: Description, c: Command, lengths: Lengths) -> Admitted
     requires { ⌜ Segment d ⌝ }
-    ensures { λ r. ⌜ r ≡ admitCommand d c buffer ⌝ }
+    ensures { λ r. ⌜ r ≡ admitCommand d c lengths ⌝ }
 {
-    let a = refusal::refusal(d, c, buffer);
+    let a = refusal::refusal(d, c, lengths);
     if answer::good(a) {
         return Admitted::Go(c);
     }
@@ -26,18 +26,16 @@ fn admit_command(d: Description, c: Command, buffer: usize) -> Admitted
 }
 
 // All that is decided before a byte of the segment or the buffer is looked at.
-pub fn admit(d: Description, segment: usize, command: &[u8], buffer: usize) -> Admitted
-    ensures { λ r. ⌜ r ≡ admitted d segment (now (command .entry)) buffer ⌝ }
+pub fn admit(d: Description, lengths: Lengths, command: &[u8]) -> Admitted
+    ensures { λ r. ⌜ r ≡ admitted d lengths (now (command .entry)) ⌝ }
 {
-    if !segment::fit(d) {
-        return Admitted::Refused(Answer::Refused(Reason::DescriptionBad));
-    }
-    if segment != segment::length(d) {
-        return Admitted::Refused(Answer::Refused(Reason::SegmentLengthWrong));
+    let a = segment::segment_rules(d, lengths.segment);
+    if !answer::good(a) {
+        return Admitted::Refused(a);
     }
     let decoded = command::decode(command);
     match decoded {
-        Decoded::Refused(a) => Admitted::Refused(a),
-        Decoded::Served(c) => admit_command(d, c, buffer),
+        Decoded::Refused(r) => Admitted::Refused(Answer::Refused(r)),
+        Decoded::Served(c) => admit_command(d, c, lengths),
     }
 }

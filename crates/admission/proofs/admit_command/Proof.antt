@@ -2,11 +2,11 @@
 -- Assumes nothing.
 use mathlib.Core.Path.{_≡_, sym, _∙_}
 use mathlib.Core.Bool.{Bool, true, false}
-use Prim.Native.Nat.{ℕ}
 use Rattle.answer.specs.Answer.{isGood}
 use Rattle.answer.specs.declared.Answer.{Answer}
 use Rattle.segment.specs.declared.Description.{Description}
 use Rattle.command.specs.declared.Command.{Command}
+use Rattle.refusal.specs.declared.Lengths.{Lengths}
 use Rattle.refusal.specs.Refusal.{refusal}
 use Rattle.admission.specs.declared.Admitted.the-variants.{Refused, Go}
 use Rattle.admission.specs.Admission.{admitCommand}
@@ -14,7 +14,7 @@ use borrow.Author.Needs.{needs}
 use Rattle.admission.proofs.admit_command.Statement.{statement}
 use Rattle.admission.proofs.admit_command.Tie as tie
 
-module _ (d : Description) (k : Command) (b : ℕ) (a : Answer) (g : Bool) (e : a ≡ refusal d k b) (t : g ≡ isGood a) where
+module _ (d : Description) (k : Command) (b : Lengths) (a : Answer) (g : Bool) (e : a ≡ refusal d k b) (t : g ≡ isGood a) where
   went : g ≡ true → admitCommand d k b ≡ Go k
   went y = rw (← e, sym t ∙ y)
 
