@@ -9,7 +9,7 @@ use Rattle.segment.specs.declared.Description.{Description}
 use Rattle.segment.specs.Segment.{intervalsOf}
 use Rattle.command.specs.declared.Command.{Command}
 use Rattle.interval.specs.declared.Place.{Place}
-use Rattle.interval.proofs.TurnLaws.{after}
+use Rattle.words.proofs.Turns.{after}
 use Rattle.judge.specs.Judge.{nextInterval, nextBlock}
 use Rattle.judge.proofs.PlaceLaws.{place-after-interval, place-after-block}
 use Rattle.checks.specs.Checks.{startOf, firstTag}

@@ -32,7 +32,7 @@ use Rattle.interval.specs.Interval.{dataOf, fieldOf, guardWrong, applicationWro
 use Rattle.interval.specs.Verdict.{Verdict}
 use Rattle.judge.specs.FirstOf.{firstOf}
 use Rattle.judge.specs.Judge.{judgeBlocks}
-use Rattle.judge.proofs.FirstLaws.{good-or}
+use Rattle.answer.proofs.Ladder.{good-or}
 use Rattle.checks.specs.Checks.{rulesOf, startOf, firstTag}
 use Rattle.checks.specs.Intervals.{intervalAt, placeAt, verdictAt}
 use Rattle.checks.proofs.Places.{tag-small}

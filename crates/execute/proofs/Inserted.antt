@@ -25,7 +25,7 @@ use Rattle.command.specs.declared.Decoded.the-variants.{Served}
 use Rattle.command.specs.declared.Operation.the-variants.{Write}
 use Rattle.command.proofs.Laws.{Bounded, served-bounded}
 use Rattle.interval.specs.Interval.{storedGuard, storedApplication, storedReference, dataOf, fieldOf}
-use Rattle.interval.proofs.TurnLaws.{after}
+use Rattle.words.proofs.Turns.{after}
 use Rattle.insertion.specs.declared.Marks.{Marks}
 use Rattle.insertion.specs.Insertion.{fieldBytes, withField, later, storedBlock, storedBlocks}
 use Rattle.insertion.proofs.Laws.{field-length, interval-length, block-length, interval-read-on, interval-field-on, guard-there, application-there, reference-there}

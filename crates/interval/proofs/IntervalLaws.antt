@@ -14,7 +14,7 @@ use Rattle.words.proofs.Parts.{part-at}
 use Rattle.words.proofs.Runs.{peel-within, peel-rest}
 use Rattle.interval.specs.declared.Escape.{Escape}
 use Rattle.interval.specs.Interval.{dataOf, fieldOf, escapes, anyEscapes}
-use Rattle.interval.proofs.TurnLaws.{turn-of, own-of, every-of, drop-take}
+use Rattle.words.proofs.Turns.{turn-of, own-of, every-of, drop-take}
 
 -- ---- the parts of an interval that starts at i, the first of k that end at n
 pub interval-within : (k i size n : ℕ) → 0 < k → i + k * (size + 8) ≡ n → i + size + 8 ≤ n

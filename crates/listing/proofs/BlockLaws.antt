@@ -9,7 +9,7 @@ use native.Mathlib.Omega.{arith}
 use lib.ListN.{length, take, drop, length-append}
 use Rattle.interval.specs.declared.Rules.{Rules}
 use Rattle.interval.specs.declared.Place.{Place}
-use Rattle.interval.proofs.TurnLaws.{turn-of, own-of}
+use Rattle.words.proofs.Turns.{turn-of, own-of}
 use Rattle.interval.proofs.IntervalLaws.{own-field, own-any}
 use Rattle.judge.specs.Judge.{nextInterval, nextBlock}
 use Rattle.judge.proofs.BlockLaws.{own-interval}

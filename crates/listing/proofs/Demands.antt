@@ -18,7 +18,7 @@ use Rattle.interval.specs.declared.Place.{Place}
 use Rattle.interval.specs.Interval.{dataOf, fieldOf, anyEscapes, guardWrong, applicationWrong, referenceWrong, judgePieces, judgeInterval}
 use Rattle.judge.specs.FirstOf.{firstOf}
 use Rattle.judge.specs.Judge.{judgeIntervals, judgeBlock, judgeBlocks, nextInterval, nextBlock}
-use Rattle.judge.proofs.FirstLaws.{orElse-good}
+use Rattle.answer.proofs.Ladder.{orElse-good}
 use Rattle.checks.specs.Checks.{columnsOf, applicationKnown, rulesOf, startOf}
 use Rattle.text.proofs.Writing.{laid-length}
 use Rattle.text.proofs.Digits.{decimal-most}

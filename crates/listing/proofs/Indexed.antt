@@ -19,7 +19,7 @@ use Rattle.segment.specs.Segment.{Segment, intervalsOf, lengthOf}
 use Rattle.interval.specs.declared.Rules.{Rules}
 use Rattle.interval.specs.declared.Place.{Place}
 use Rattle.interval.specs.Interval.{storedReference, anyEscapes, judgeInterval}
-use Rattle.interval.proofs.TurnLaws.{after}
+use Rattle.words.proofs.Turns.{after}
 use Rattle.judge.specs.Judge.{nextInterval, nextBlock}
 use Rattle.checks.specs.Checks.{firstTag, rulesOf, startOf}
 use Rattle.checks.specs.Intervals.{intervalAt, placeAt, skipped, verdictAt}

@@ -15,7 +15,7 @@ use Rattle.segment.specs.declared.Description.{Description}
 use Rattle.segment.specs.Segment.{Segment, intervalsOf, sizeOf}
 use Rattle.interval.specs.declared.Place.{Place}
 use Rattle.interval.specs.Interval.{dataOf, fieldOf, storedGuard, storedReference, guardWrong, applicationWrong, referenceWrong, judgePieces, judgeInterval}
-use Rattle.interval.proofs.TurnLaws.{after}
+use Rattle.words.proofs.Turns.{after}
 use Rattle.judge.specs.Judge.{nextBlock}
 use Rattle.judge.proofs.PlaceLaws.{place-after-block}
 use Rattle.checks.specs.Checks.{columnsOf, applicationKnown, referenceKnown, firstTag, rulesOf, startOf}

@@ -72,3 +72,13 @@ module _ {A C : Type 0} (piece : A → List ℕ → C) (next : A → A) (P : ℕ
               turned k t s
               ∙ split (piece t s) _ .1 (sym (piece-zero t s) ∙ each 0 (omega arith), behind .1 (λ j h. sym (piece-suc t s j) ∙ each (suc j) (omega arith))),
         )
+
+    -- in two runs: what k pieces give, joined with what the m behind them give
+    pub two-of : (join : B → B → B) → ((t : A) (s : List ℕ) (b : B) → join (F 0 t s) b ≡ b) → ((c : C) (a b : B) → op c (join a b) ≡ join (op c a) b)
+        → (k m : ℕ) (t : A) (s : List ℕ) → F (k + m) t s ≡ join (F k t s) (F m (after next k t) (drop (k * P) s))
+    unfolding after
+    two-of join none assoc zero m t s = rw (zero-add, zero-mul) (sym (none t s (F m t s)))
+    two-of join none assoc (suc k) m t s =
+        rw (suc-add, one-more k P, ← drop-drop (k * P) P s)
+        (turned (k + m) t s ∙ ap (op (piece t s)) (two-of join none assoc k m (next t) (drop P s))
+        ∙ assoc (piece t s) _ _ ∙ ap (λ (b : B). join b (F m (after next k (next t)) (drop (k * P) (drop P s)))) (sym (turned k t s)))
