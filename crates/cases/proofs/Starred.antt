@@ -15,8 +15,8 @@ use Rattle.judge.specs.Judge.{judgeIntervals, judgeBlock, judgeBlocks}
 use Rattle.insertion.specs.Insertion.{fieldBytes, withField, storedBlock, storedBlocks}
 use Rattle.refusal.specs.Refusal.{typeRules, codeRule, checkRule, rangeRule, movedOf, sizeRule, bufferOf, bufferRule, refusal}
 use Rattle.admission.specs.Admission.{admitted}
-use Rattle.checks.specs.Checks.{columnsOf, applicationKnown, referenceKnown, firstTag, rulesOf, startOf}
-use Rattle.checks.specs.Inserted.{insertedApplication, insertedReference, marksOf}
+use Rattle.rules.specs.Rules.{columnsOf, applicationKnown, referenceKnown, firstTag, rulesOf, startOf}
+use Rattle.rules.specs.Inserted.{insertedApplication, insertedReference, marksOf}
 use Rattle.transfer.specs.Transfer.{offsetOf, spanOf, blocksOf, whole, judgedIn, handed, received}
 use Rattle.execute.specs.Execute.{judged, overwritten, performed, executed}
 use Rattle.parity.specs.Parity.{xorParts, parityOf}

@@ -30,9 +30,9 @@ use Rattle.judge.specs.Judge.{judgeIntervals, judgeBlock, judgeBlocks, nextInte
 use Rattle.insertion.specs.declared.Marks.{Marks}
 use Rattle.insertion.specs.Insertion.{fieldBytes, withField, later, storedBlock, storedBlocks}
 use Rattle.insertion.proofs.Laws.{field-length, interval-length, block-length, interval-read-on, interval-field-on, guard-there, application-there, reference-there}
-use Rattle.checks.specs.Checks.{columnsOf, applicationKnown, referenceKnown, firstTag, escapeOf, rulesOf, startOf}
-use Rattle.checks.specs.Inserted.{insertedApplication, insertedReference, marksOf}
-use Rattle.checks.specs.Intervals.{intervalAt, placeAt, skipped, verdictAt}
+use Rattle.rules.specs.Rules.{columnsOf, applicationKnown, referenceKnown, firstTag, escapeOf, rulesOf, startOf}
+use Rattle.rules.specs.Inserted.{insertedApplication, insertedReference, marksOf}
+use Rattle.rules.specs.Intervals.{intervalAt, placeAt, skipped, verdictAt}
 use Rattle.execute.specs.Compared.{asRead}
 use Rattle.execute.proofs.Wrong.{blocks-good}
 

@@ -33,9 +33,9 @@ use Rattle.interval.specs.Verdict.{Verdict}
 use Rattle.judge.specs.FirstOf.{firstOf}
 use Rattle.judge.specs.Judge.{judgeBlocks}
 use Rattle.answer.proofs.Ladder.{good-or}
-use Rattle.checks.specs.Checks.{rulesOf, startOf, firstTag}
-use Rattle.checks.specs.Intervals.{intervalAt, placeAt, verdictAt}
-use Rattle.checks.proofs.Places.{tag-small}
+use Rattle.rules.specs.Rules.{rulesOf, startOf, firstTag}
+use Rattle.rules.specs.Intervals.{intervalAt, placeAt, verdictAt}
+use Rattle.rules.proofs.Places.{tag-small}
 use Rattle.refusal.specs.Refusal.{typeRules, codeRule, checkRule, rangeRule, sizeRule, isVerify, movedOf, bufferOf, bufferRule, refusal}
 use Rattle.admission.specs.declared.Admitted.{Admitted}
 use Rattle.admission.specs.declared.Admitted.the-variants.{Refused, Go}

@@ -31,9 +31,9 @@ use Rattle.insertion.specs.Insertion.{fieldBytes, withField, later, storedBlock
 use Rattle.insertion.proofs.Laws.{field-length, interval-length, block-length, interval-read-on, interval-field-on, guard-there, application-there, reference-there}
 use Rattle.blocks.proofs.Pieces.{one-within, rest-within}
 use Rattle.words.proofs.Parts.{one-more, drop-more}
-use Rattle.checks.specs.Checks.{firstTag}
-use Rattle.checks.specs.Inserted.{insertedReference, marksOf}
-use Rattle.checks.specs.Intervals.{intervalAt}
+use Rattle.rules.specs.Rules.{firstTag}
+use Rattle.rules.specs.Inserted.{insertedReference, marksOf}
+use Rattle.rules.specs.Intervals.{intervalAt}
 use Rattle.admission.specs.Ready.{Ready}
 use Rattle.transfer.specs.Transfer.{blocksOf, received}
 use Rattle.execute.specs.Execute.{executed}

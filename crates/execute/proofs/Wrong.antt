@@ -23,9 +23,9 @@ use Rattle.judge.specs.FirstOf.{firstOf}
 use Rattle.judge.specs.Judge.{judgeIntervals, judgeBlock, judgeBlocks, nextInterval, nextBlock}
 use Rattle.answer.proofs.Ladder.{not-both}
 use Rattle.judge.proofs.FirstLaws.{first-good, first-found, FirstWrong}
-use Rattle.checks.specs.Checks.{rulesOf, startOf, firstTag}
-use Rattle.checks.specs.Intervals.{blockAt, intervalAt, placeAt, skipped, verdictAt}
-use Rattle.checks.proofs.Places.{place-is}
+use Rattle.rules.specs.Rules.{rulesOf, startOf, firstTag}
+use Rattle.rules.specs.Intervals.{blockAt, intervalAt, placeAt, skipped, verdictAt}
+use Rattle.rules.proofs.Places.{place-is}
 use Rattle.execute.specs.Checked.{Names, FirstWrongInterval}
 
 -- ---- one interval

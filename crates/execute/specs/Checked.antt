@@ -15,8 +15,8 @@ use Rattle.command.specs.declared.Operation.{Operation}
 use Rattle.command.specs.declared.Operation.the-variants.{Read, Write, Verify}
 use Rattle.interval.specs.declared.Place.{Place}
 use Rattle.interval.specs.Interval.{judgeInterval}
-use Rattle.checks.specs.Checks.{rulesOf}
-use Rattle.checks.specs.Intervals.{intervalAt, placeAt, skipped, verdictAt}
+use Rattle.rules.specs.Rules.{rulesOf}
+use Rattle.rules.specs.Intervals.{intervalAt, placeAt, skipped, verdictAt}
 use Rattle.admission.specs.declared.Admitted.the-variants.{Go}
 use Rattle.admission.specs.Admission.{admitted}
 use Rattle.transfer.specs.Transfer.{blocksOf}

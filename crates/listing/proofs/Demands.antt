@@ -19,7 +19,7 @@ use Rattle.interval.specs.Interval.{dataOf, fieldOf, anyEscapes, guardWrong, ap
 use Rattle.judge.specs.FirstOf.{firstOf}
 use Rattle.judge.specs.Judge.{judgeIntervals, judgeBlock, judgeBlocks, nextInterval, nextBlock}
 use Rattle.answer.proofs.Ladder.{orElse-good}
-use Rattle.checks.specs.Checks.{columnsOf, applicationKnown, rulesOf, startOf}
+use Rattle.rules.specs.Rules.{columnsOf, applicationKnown, rulesOf, startOf}
 use Rattle.text.proofs.Writing.{laid-length}
 use Rattle.text.proofs.Digits.{decimal-most}
 use Rattle.lines.specs.Lines.{worded, stateOf, lineOf, intervalLines, linesIn, blockLines, faulty, skips, countOf, linesText, headerText, intervalsText, faultsText, skippedText, numbersText, totalText}

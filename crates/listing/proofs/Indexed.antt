@@ -21,9 +21,9 @@ use Rattle.interval.specs.declared.Place.{Place}
 use Rattle.interval.specs.Interval.{storedReference, anyEscapes, judgeInterval}
 use Rattle.words.proofs.Turns.{after}
 use Rattle.judge.specs.Judge.{nextInterval, nextBlock}
-use Rattle.checks.specs.Checks.{firstTag, rulesOf, startOf}
-use Rattle.checks.specs.Intervals.{intervalAt, placeAt, skipped, verdictAt}
-use Rattle.checks.proofs.Places.{tag-small, place-is}
+use Rattle.rules.specs.Rules.{firstTag, rulesOf, startOf}
+use Rattle.rules.specs.Intervals.{intervalAt, placeAt, skipped, verdictAt}
+use Rattle.rules.proofs.Places.{tag-small, place-is}
 use Rattle.lines.specs.declared.Line.{Line}
 use Rattle.lines.specs.declared.State.the-variants.{Skipped}
 use Rattle.lines.specs.Lines.{worded, stateOf, lineOf, intervalLines, linesIn, blockLines, faulty}

@@ -19,7 +19,7 @@ use Rattle.command.specs.declared.Command.{Command}
 use Rattle.interval.specs.declared.Rules.{Rules}
 use Rattle.interval.specs.declared.Place.{Place}
 use Rattle.judge.specs.Judge.{Run}
-use Rattle.checks.specs.Checks.{rulesOf, startOf}
+use Rattle.rules.specs.Rules.{rulesOf, startOf}
 use Rattle.text.specs.Text.{decimal}
 use Rattle.text.specs.Laid.{laid, Written}
 use Rattle.text.proofs.Writing.{written-then, written-as}

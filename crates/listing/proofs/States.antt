@@ -18,7 +18,7 @@ use Rattle.interval.specs.Interval.{dataOf, fieldOf, storedGuard, storedReferen
 use Rattle.words.proofs.Turns.{after}
 use Rattle.judge.specs.Judge.{nextBlock}
 use Rattle.judge.proofs.PlaceLaws.{place-after-block}
-use Rattle.checks.specs.Checks.{columnsOf, applicationKnown, referenceKnown, firstTag, rulesOf, startOf}
+use Rattle.rules.specs.Rules.{columnsOf, applicationKnown, referenceKnown, firstTag, rulesOf, startOf}
 use Rattle.lines.specs.declared.State.{State}
 use Rattle.lines.specs.declared.State.the-variants.{Skipped, Guard, Ref, Ok}
 use Rattle.lines.specs.Lines.{worded, stateOf}

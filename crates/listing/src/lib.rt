@@ -140,8 +140,8 @@ fn print_segment(d: Description, s: &[u8], out: &mut [u8], sheet: Sheet) -> Shee
     }
     let c = read_all(d);
     let t = guard::table();
-    let r = checks::rules(d, c);
-    let p = checks::start(d, c);
+    let r = rules::rules(d, c);
+    let p = rules::start(d, c);
     print_blocks(&t, r, p, d.count as usize, s, out, sheet)
 }
 

@@ -17,8 +17,8 @@ use Rattle.segment.specs.Segment.{Segment, intervalsOf, sizeOf, storedOf}
 use Rattle.segment.proofs.Laws.{sizes, stored-intervals, stored-plain}
 use Rattle.command.specs.declared.Command.{Command}
 use Rattle.judge.specs.Judge.{Run, judgeBlocks}
-use Rattle.checks.specs.Checks.{rulesOf, startOf}
-use Rattle.checks.specs.Inserted.{marksOf}
+use Rattle.rules.specs.Rules.{rulesOf, startOf}
+use Rattle.rules.specs.Inserted.{marksOf}
 use Rattle.insertion.specs.declared.Marks.{Marks}
 use Rattle.blocks.specs.Blocks.{stripped}
 use Rattle.insertion.specs.Insertion.{storedBlocks}

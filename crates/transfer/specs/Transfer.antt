@@ -13,8 +13,8 @@ use Rattle.command.specs.declared.Command.{Command}
 use Rattle.judge.specs.Judge.{judgeBlocks}
 use Rattle.blocks.specs.Blocks.{stripped}
 use Rattle.insertion.specs.Insertion.{storedBlocks}
-use Rattle.checks.specs.Checks.{rulesOf, startOf}
-use Rattle.checks.specs.Inserted.{marksOf}
+use Rattle.rules.specs.Rules.{rulesOf, startOf}
+use Rattle.rules.specs.Inserted.{marksOf}
 
 -- "Any answer but 0 changes no lent byte": the new bytes with a good answer, the old ones with any other
 abbrev pub keep : Answer → List ℕ → List ℕ → List ℕ

@@ -31,8 +31,8 @@ pub fn judge_all(t: &[u16; 256], d: Description, c: Command, s: &[u8]) -> Answer
     if d.kind == 0 {
         return Answer::Good;
     }
-    let rules = checks::rules(d, c);
-    let start = checks::start(d, c);
+    let rules = rules::rules(d, c);
+    let start = rules::start(d, c);
     judge::judge_blocks(t, rules, start, c.length as usize, s)
 }
 
@@ -81,7 +81,7 @@ fn store(t: &[u16; 256], d: Description, c: Command, segment: &mut [u8], at: usi
     }
     let size = segment::size(d);
     let intervals = segment::intervals(d);
-    let marks = checks::marks(d, c);
+    let marks = rules::marks(d, c);
     insertion::insert_blocks(t, segment, at, buffer, size, intervals, count, marks);
 }
 
