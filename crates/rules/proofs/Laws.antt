@@ -1,11 +1,11 @@
 -- What is checked and inserted, from the facts that decide it.
 -- Assumes nothing.
-use mathlib.Core.Path.{_≡_, sym, ap, _∙_}
+use mathlib.Core.Path.{_≡_, refl, sym, ap, _∙_}
 use mathlib.Core.Bool.{Bool, true, false, _&&_, cond}
 use Prim.Native.Nat.{ℕ, _+_, _*_, _/_, _%_, _^_, _≤_}
 use native.Mathlib.Nat.{mul-add-mod-self-right, mul-right-comm, add-mul, div-add-mod', mul-le-mul}
 use native.Mathlib.Omega.{arith}
-use borrow.Author.Tests.{eq-eqb, ne-eqb}
+use borrow.Author.Tests.{eq-eqb, ne-eqb, eqb-false}
 use lib.Dec.{eqb}
 use Rattle.segment.specs.declared.Description.{Description}
 use Rattle.segment.specs.Segment.{Segment, intervalsOf, sizeOf}
@@ -18,6 +18,7 @@ use Rattle.insertion.specs.declared.Marks.{Marks}
 use Rattle.rules.specs.declared.Columns.{Columns}
 use Rattle.rules.specs.declared.Side.{Side}
 use Rattle.rules.specs.Rules.{columnsIn, columnsOf, applicationKnown, referenceKnown, firstTag, escapeOf, rulesOf, startOf}
+use Rattle.rules.specs.Sides.{checksOn, checkedOn}
 use Rattle.rules.specs.Inserted.{insertedApplication, insertedReference, marksOf}
 
 -- no code of the table's: nothing is checked
@@ -104,3 +105,35 @@ module _ (d : Description) (c : Command) where
   -- ---- a reduced address times the intervals of a block is small
   pub product-small : (a n : ℕ) → Segment d → n ≡ intervalsOf d → a % 2 ^ 32 * n ≤ 2 ^ 32 * 8
   product-small a n s e = mul-le-mul {n₂ = 2 ^ 32} {m₂ = 8} (omega arith) (rw e (sizes d s .intervals-most))
+
+-- ---- a side that is checked is checked over all of the transfer's blocks
+module _ (side : Side) (d : Description) (c : Command) where
+  pub record Checks : Type 0 where
+    pub fields : d .kind ≡ 0 → ⊥
+    pub checks : checksOn side (c .operation) c ≡ true
+    pub all : checkedOn side d c ≡ c .length
+
+  pub checks-all : (checkedOn side d c ≡ 0 → ⊥) → Checks
+  unfolding checkedOn
+  checks-all n = by (eqb (d .kind) 0) refl (checksOn side (c .operation) c) refl
+    where
+      by : (k : Bool) → eqb (d .kind) 0 ≡ k → (b : Bool) → checksOn side (c .operation) c ≡ b → Checks
+      by true k b e = absurd (n (rw k))
+      by false k true e = record { fields = eqb-false (d .kind) 0 k; checks = e; all = rw (k, e) }
+      by false k false e = absurd (n (rw (k, e)))
+
+  pub checked-plain : d .kind ≡ 0 → checkedOn side d c ≡ 0
+  unfolding checkedOn
+  checked-plain k = rw (eq-eqb (d .kind) 0 k)
+
+  pub checked-all : (d .kind ≡ 0 → ⊥) → checksOn side (c .operation) c ≡ true → checkedOn side d c ≡ c .length
+  unfolding checkedOn
+  checked-all n e = rw (ne-eqb (d .kind) 0 n, e)
+
+  pub checked-none : checksOn side (c .operation) c ≡ false → checkedOn side d c ≡ 0
+  unfolding checkedOn
+  checked-none e = rw e (by (eqb (d .kind) 0))
+    where
+      by : (k : Bool) → _≡_ {A = ℕ} (cond k 0 0) 0
+      by true = refl
+      by false = refl

@@ -1,9 +1,9 @@
--- `transfer::moved_whole`: the type and the code decide.
+-- `transfer::whole`: the type and the code decide.
 -- Assumes nothing.
 use mathlib.Core.Path.{sym}
 use Rattle.transfer.proofs.Shapes.{whole-plain, whole-code, whole-not}
-use Rattle.transfer.proofs.moved_whole.Statement.{statement}
-use Rattle.transfer.proofs.moved_whole.Tie as tie
+use Rattle.transfer.proofs.whole.Statement.{statement}
+use Rattle.transfer.proofs.whole.Tie as tie
 
 returns : tie.Need-returns
 returns c = sym (whole-plain _ _ (c .if1 .taken))
@@ -14,5 +14,5 @@ returns-2 c = sym (whole-not _ _ (c .before .before .if1 .left) (c .if2 .taken))
 returns-3 : tie.Need-returns-3
 returns-3 c = sym (whole-code _ _ (c .before .before .if1 .left) (c .if2 .left))
 
-pub moved-whole-spec : {M : Type 1} → statement M
-moved-whole-spec = tie.close (tie.spec returns returns-2 returns-3)
+pub whole-spec : {M : Type 1} → statement M
+whole-spec = tie.close (tie.spec returns returns-2 returns-3)
