@@ -9,7 +9,7 @@ use Rattle.guard.specs.Guard.{guard}
 use Rattle.segment.specs.declared.Description.{Description}
 use Rattle.segment.specs.Segment.{intervalsOf, sizeOf}
 use Rattle.command.specs.declared.Command.{Command}
-use Rattle.interval.specs.Interval.{storedGuard, storedApplication, storedReference, dataOf, fieldOf}
+use Rattle.field.specs.Field.{storedGuard, storedApplication, storedReference, dataOf, fieldOf}
 use Rattle.checks.specs.Inserted.{insertedApplication}
 use Rattle.checks.specs.Intervals.{intervalAt, placeAt}
 
