@@ -28,7 +28,8 @@ use Rattle.command.specs.declared.Operation.{Operation}
 use Rattle.command.specs.declared.Operation.the-variants.{Read, Write, Verify}
 use Rattle.command.proofs.Laws.{Bounded, served-bounded}
 use Rattle.command.proofs.Demands.{same-command}
-use Rattle.interval.specs.Interval.{dataOf, fieldOf, guardWrong, applicationWrong, referenceWrong, judgeInterval}
+use Rattle.field.specs.Field.{dataOf, fieldOf}
+use Rattle.interval.specs.Interval.{guardWrong, applicationWrong, referenceWrong, judgeInterval}
 use Rattle.interval.specs.Verdict.{Verdict}
 use Rattle.judge.specs.FirstOf.{firstOf}
 use Rattle.judge.specs.Judge.{judgeBlocks}

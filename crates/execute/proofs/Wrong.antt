@@ -16,7 +16,8 @@ use Rattle.command.specs.declared.Command.{Command}
 use Rattle.interval.specs.declared.Rules.{Rules}
 use Rattle.interval.specs.declared.Place.{Place}
 use Rattle.interval.specs.Verdict.{Verdict}
-use Rattle.interval.specs.Interval.{dataOf, fieldOf, guardWrong, applicationWrong, referenceWrong, judgePieces, judgeInterval}
+use Rattle.field.specs.Field.{dataOf, fieldOf}
+use Rattle.interval.specs.Interval.{guardWrong, applicationWrong, referenceWrong, judgePieces, judgeInterval}
 use Rattle.words.proofs.Turns.{after, pieceAt}
 use Rattle.interval.proofs.PieceLaws.{pieces-verdict}
 use Rattle.judge.specs.FirstOf.{firstOf}

@@ -10,7 +10,7 @@ use Rattle.segment.specs.declared.Description.{Description}
 use Rattle.segment.specs.Segment.{intervalsOf, sizeOf}
 use Rattle.segment.specs.Places.{intervalAt}
 use Rattle.command.specs.declared.Command.{Command}
-use Rattle.interval.specs.Interval.{storedGuard, storedApplication, storedReference, dataOf, fieldOf}
+use Rattle.field.specs.Field.{storedGuard, storedApplication, storedReference, dataOf, fieldOf}
 use Rattle.rules.specs.Inserted.{insertedApplication}
 use Rattle.rules.specs.Intervals.{placeAt}
 

@@ -22,7 +22,8 @@ use Rattle.command.specs.declared.Operation.{Operation}
 use Rattle.command.specs.declared.Operation.the-variants.{Read, Write, Verify}
 use Rattle.interval.specs.declared.Escape.{Escape}
 use Rattle.interval.specs.declared.Escape.the-variants.{Tag, Both}
-use Rattle.interval.specs.Interval.{storedApplication, storedReference, escapes, fieldOf, anyEscapes}
+use Rattle.field.specs.Field.{storedApplication, storedReference, fieldOf}
+use Rattle.interval.specs.Interval.{escapes, anyEscapes}
 use Rattle.judge.specs.Judge.{judgeBlock, judgeBlocks, nextBlock}
 use Rattle.judge.proofs.FirstLaws.{first-good}
 use Rattle.judge.proofs.BlockLaws.{block-escaped}

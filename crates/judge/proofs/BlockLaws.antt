@@ -12,13 +12,14 @@ use Rattle.words.proofs.Parts.{part-at}
 use Rattle.words.proofs.Runs.{peel-within, peel-rest}
 use Rattle.words.proofs.Turns.{after}
 use Rattle.answer.specs.Answer.{orElse}
+use Rattle.field.proofs.Laws.{own-data, own-field}
 use Rattle.answer.specs.declared.Answer.{Answer}
 use Rattle.answer.specs.declared.Answer.the-variants as answers
 use Rattle.interval.specs.declared.Rules.{Rules}
 use Rattle.interval.specs.declared.Place.{Place}
 use Rattle.interval.specs.Interval.{anyEscapes, judgePieces, judgeInterval}
 use Rattle.interval.proofs.PieceLaws.{pieces-unchecked}
-use Rattle.interval.proofs.IntervalLaws.{own-data, own-field, own-any}
+use Rattle.interval.proofs.IntervalLaws.{own-any}
 use Rattle.judge.specs.Judge.{judgeIntervals, judgeBlock, judgeBlocks, nextInterval, nextBlock, Run}
 use Rattle.judge.proofs.FirstLaws.{own-bytes, first-good, first-two}
 

@@ -10,7 +10,8 @@ use Rattle.answer.specs.declared.Reason.the-variants as reasons
 use Rattle.answer.specs.declared.Field.the-variants as fields
 use Rattle.interval.specs.declared.Rules.{Rules}
 use Rattle.interval.specs.declared.Place.{Place}
-use Rattle.interval.specs.Interval.{storedGuard, storedApplication, storedReference, fieldOf, anyEscapes, judgeInterval}
+use Rattle.field.specs.Field.{storedGuard, storedApplication, storedReference, fieldOf}
+use Rattle.interval.specs.Interval.{anyEscapes, judgeInterval}
 use Rattle.judge.specs.Judge.{nextInterval, nextBlock}
 use Rattle.text.specs.Text.{hexadecimal, decimal}
 use Rattle.text.specs.Laid.{Written}

@@ -106,9 +106,9 @@ pub fn line_of(t: &[u16; 256], r: Rules, skipped: bool, i: u64, p: Place, s: &[u
     Line {
         address: p.address,
         interval: i,
-        guard: words::read2(field, 0),
-        application: words::read2(field, 2),
-        reference: words::read4(field, 4),
+        guard: field::stored_guard(field),
+        application: field::stored_application(field),
+        reference: field::stored_reference(field),
         state: state_of(t, r, skipped, p, s),
     }
 }

@@ -10,7 +10,8 @@ use lib.ListN.{length, take, drop, length-append}
 use Rattle.interval.specs.declared.Rules.{Rules}
 use Rattle.interval.specs.declared.Place.{Place}
 use Rattle.words.proofs.Turns.{turn-of, own-of}
-use Rattle.interval.proofs.IntervalLaws.{own-field, own-any}
+use Rattle.interval.proofs.IntervalLaws.{own-any}
+use Rattle.field.proofs.Laws.{own-field}
 use Rattle.judge.specs.Judge.{nextInterval, nextBlock}
 use Rattle.judge.proofs.BlockLaws.{own-interval}
 use Rattle.lines.specs.declared.Line.{Line}

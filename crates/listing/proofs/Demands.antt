@@ -15,7 +15,8 @@ use Rattle.segment.specs.declared.Description.{Description}
 use Rattle.segment.specs.Segment.{Segment, intervalsOf, lengthOf}
 use Rattle.interval.specs.declared.Rules.{Rules}
 use Rattle.interval.specs.declared.Place.{Place}
-use Rattle.interval.specs.Interval.{dataOf, fieldOf, anyEscapes, guardWrong, applicationWrong, referenceWrong, judgePieces, judgeInterval}
+use Rattle.field.specs.Field.{dataOf, fieldOf}
+use Rattle.interval.specs.Interval.{anyEscapes, guardWrong, applicationWrong, referenceWrong, judgePieces, judgeInterval}
 use Rattle.judge.specs.FirstOf.{firstOf}
 use Rattle.judge.specs.Judge.{judgeIntervals, judgeBlock, judgeBlocks, nextInterval, nextBlock}
 use Rattle.answer.proofs.Ladder.{orElse-good}

@@ -18,7 +18,8 @@ use Rattle.segment.specs.declared.Description.{Description}
 use Rattle.segment.specs.Segment.{Segment, intervalsOf, lengthOf}
 use Rattle.interval.specs.declared.Rules.{Rules}
 use Rattle.interval.specs.declared.Place.{Place}
-use Rattle.interval.specs.Interval.{storedReference, anyEscapes, judgeInterval}
+use Rattle.field.specs.Field.{storedReference}
+use Rattle.interval.specs.Interval.{anyEscapes, judgeInterval}
 use Rattle.words.proofs.Turns.{after}
 use Rattle.judge.specs.Judge.{nextInterval, nextBlock}
 use Rattle.rules.specs.Rules.{firstTag, rulesOf, startOf}

@@ -14,7 +14,8 @@ use Rattle.answer.specs.declared.Field.the-variants as fields
 use Rattle.segment.specs.declared.Description.{Description}
 use Rattle.segment.specs.Segment.{Segment, intervalsOf, sizeOf}
 use Rattle.interval.specs.declared.Place.{Place}
-use Rattle.interval.specs.Interval.{dataOf, fieldOf, storedGuard, storedReference, guardWrong, applicationWrong, referenceWrong, judgePieces, judgeInterval}
+use Rattle.field.specs.Field.{dataOf, fieldOf, storedGuard, storedReference}
+use Rattle.interval.specs.Interval.{guardWrong, applicationWrong, referenceWrong, judgePieces, judgeInterval}
 use Rattle.words.proofs.Turns.{after}
 use Rattle.judge.specs.Judge.{nextBlock}
 use Rattle.judge.proofs.PlaceLaws.{place-after-block}

@@ -2,23 +2,18 @@
 -- Assumes nothing.
 use mathlib.Core.Path.{_≡_, refl, sym, ap, ap₂, _∙_}
 use mathlib.Core.Logic.{_↔_}
-use mathlib.Core.List.{List, [], _∷_}
+use mathlib.Core.List.{List}
 use Prim.Native.Nat.{ℕ, zero, suc, _+_, _-_, _*_, _<_}
 use native.Mathlib.Nat.{suc-add, suc-mul, zero-mul, zero-add, add-comm, le-of-suc-le-suc, not-suc-le-zero}
 use native.Mathlib.Omega.{arith}
 use lib.ListN.{take, drop}
-use lib.Seq.{drop-drop, take-nil, take-take}
-use Rattle.words.proofs.Parts.{one-more}
+use lib.Seq.{drop-drop, take-take}
+use Rattle.words.proofs.Parts.{one-more, drop-take}
 
 -- the value after `next` was taken j times
 unfoldable pub after : {A : Type 0} → (A → A) → ℕ → A → A
 after next zero t = t
 after next (suc j) t = after next j (next t)
-
-pub drop-take : (n m : ℕ) (s : List ℕ) → drop n (take (n + m) s) ≡ take m (drop n s)
-drop-take zero m s = rw zero-add refl
-drop-take (suc n) m [] = simp take-nil
-drop-take (suc n) m (x ∷ s) = rw suc-add (drop-take n m s)
 
 -- ---- a question F that is asked piece by piece: of one piece more it is `op` of that piece's part and F of the pieces behind it
 module _ {A C : Type 0} (piece : A → List ℕ → C) (next : A → A) (P : ℕ) where

@@ -13,7 +13,7 @@ use Rattle.answer.specs.declared.Answer.{Answer}
 use Rattle.interval.specs.declared.Rules.{Rules}
 use Rattle.interval.specs.declared.Place.{Place}
 use Rattle.interval.specs.Interval.{judgePieces, judgeInterval}
-use Rattle.interval.proofs.IntervalLaws.{interval-within, interval-rest, data-part, field-part}
+use Rattle.field.proofs.Laws.{interval-within, interval-rest, data-part, field-part}
 use Rattle.judge.specs.FirstOf.{firstOf}
 use Rattle.judge.specs.Judge.{judgeIntervals, nextInterval, Stretch}
 use Rattle.judge.proofs.FirstLaws.{first-next, first-stop, first-end}
