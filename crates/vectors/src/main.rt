@@ -42,71 +42,47 @@ fn word(n: u16) {
     io::print_hex(1, n as u64, 4);
 }
 
-// READ (10) on M. A command's bytes are operation, protect byte (code 001 is 20h), address, group, length, control.
+// READ (10) on M. Code 001 stands in the protect byte as 20h.
 fn reads() {
-    on_m(
-        b"READ (10) at 7, T 2, code 001",
-        b"\x28\x20\x00\x00\x00\x07\x00\x00\x02\x00",
-        &mut [0; 32],
-    );
-    on_m(
-        b"READ (10) at 7, T 2, code 011",
-        b"\x28\x60\x00\x00\x00\x07\x00\x00\x02\x00",
-        &mut [0; 32],
-    );
-    on_m(
-        b"READ (10) at 7, T 2, code 100",
-        b"\x28\x80\x00\x00\x00\x07\x00\x00\x02\x00",
-        &mut [0; 32],
-    );
+    ten_bytes(b"READ (10) at 7, T 2, code 001", 0x28, 0x20, 7, 2, 32);
+    ten_bytes(b"READ (10) at 7, T 2, code 011", 0x28, 0x60, 7, 2, 32);
+    ten_bytes(b"READ (10) at 7, T 2, code 100", 0x28, 0x80, 7, 2, 32);
 }
 
 // Cases of READ on M, at its last block and past its ends.
 fn reads_at_the_ends() {
-    on_m(
-        b"READ (10) at 9, T 1, code 001",
-        b"\x28\x20\x00\x00\x00\x09\x00\x00\x01\x00",
-        &mut [0; 16],
-    );
-    on_m(
-        b"READ (10) at 10, T 0",
-        b"\x28\x00\x00\x00\x00\x0a\x00\x00\x00\x00",
-        &mut [0; 0],
-    );
-    on_m(
-        b"READ (10) at 10, T 1",
-        b"\x28\x00\x00\x00\x00\x0a\x00\x00\x01\x00",
-        &mut [0; 8],
-    );
-    on_m(
-        b"READ (10) at 6, T 0",
-        b"\x28\x00\x00\x00\x00\x06\x00\x00\x00\x00",
-        &mut [0; 0],
-    );
+    ten_bytes(b"READ (10) at 9, T 1, code 001", 0x28, 0x20, 9, 1, 16);
+    ten_bytes(b"READ (10) at 10, T 0", 0x28, 0x00, 10, 0, 0);
+    ten_bytes(b"READ (10) at 10, T 1", 0x28, 0x00, 10, 1, 8);
+    ten_bytes(b"READ (10) at 6, T 0", 0x28, 0x00, 6, 0, 0);
 }
 
 // Commands on M that are refused before a block is looked at.
 fn refusals() {
-    on_m(
-        b"READ (10) with code 110",
-        b"\x28\xc0\x00\x00\x00\x07\x00\x00\x01\x00",
-        &mut [0; 16],
-    );
+    ten_bytes(b"READ (10) with code 110", 0x28, 0xC0, 7, 1, 16);
     on_m(
         b"READ (32) of 32 bytes",
         b"\x7f\x00\x00\x00\x00\x00\x00\x18\x00\x09\x00\x00\x00\x00\x00\x00\x00\x00\x00\x07\x00\x00\x00\x07\x00\x00\x00\x00\x00\x00\x00\x01",
         &mut [0; 8],
     );
-    on_m(
-        b"operation 00h",
-        b"\x00\x00\x00\x00\x00\x00\x00\x00\x00\x00",
-        &mut [0; 0],
-    );
+    ten_bytes(b"operation 00h", 0x00, 0x00, 0, 0, 0);
     on_m(
         b"READ (10) of 11 bytes",
         b"\x28\x00\x00\x00\x00\x07\x00\x00\x01\x00\x00",
         &mut [0; 8],
     );
+}
+
+// A command of ten bytes on M, with a buffer of `room` zeros, at most 32.
+fn ten_bytes(name: &[u8], operation: u8, protect: u8, address: u8, blocks: u8, room: usize) {
+    let mut buffer = [0; 32];
+    if room <= buffer.len() {
+        on_m(
+            name,
+            &[operation, protect, 0, 0, 0, address, 0, 0, blocks, 0],
+            &mut buffer[..room],
+        );
+    }
 }
 
 fn writes() {
@@ -156,6 +132,10 @@ fn execute_line(
     buffer: &mut [u8],
 ) {
     let a = execute::execute(d, segment, command, buffer);
+    result_lines(name, a, segment, buffer);
+}
+
+fn result_lines(name: &[u8], a: Answer, segment: &[u8], buffer: &[u8]) {
     io::write_all(1, name);
     answer_line(a);
     bytes_line(b"  segment ", segment);
