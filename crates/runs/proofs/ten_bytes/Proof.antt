@@ -1,10 +1,10 @@
--- `vectors::ten_bytes`: the buffer is lent only where it has room.
+-- `runs::ten_bytes`: the buffer is lent only where it has room.
 -- Assumes nothing.
 use mathlib.Core.Path.{sym}
 use lib.Seq.{length-take-le}
 use borrow.Author.Needs.{needs}
-use Rattle.vectors.proofs.ten_bytes.Statement.{statement}
-use Rattle.vectors.proofs.ten_bytes.Tie as tie
+use Rattle.runs.proofs.ten_bytes.Statement.{statement}
+use Rattle.runs.proofs.ten_bytes.Tie as tie
 
 array-borrow-prefix-buffer : tie.Need-array-borrow-prefix-buffer
 array-borrow-prefix-buffer c = search needs
