@@ -6,7 +6,8 @@ fn main() {
     reads();
     reads_at_the_ends();
     refusals();
-    writes();
+    write();
+    write_of_type_2();
 }
 
 // READ (10) on M. Code 001 stands in the protect byte as 20h.
@@ -52,26 +53,37 @@ fn ten_bytes(name: &[u8], operation: u8, protect: u8, address: u8, blocks: u8, r
     }
 }
 
-fn writes() {
+fn write() {
     // M's third block: its application tag FFFFh is not an escape in incoming data
     on_m(
         b"WRITE (10) of M's third block to 9, code 001",
         b"\x2a\x20\x00\x00\x00\x09\x00\x00\x01\x00",
         &mut [0, 0, 0, 0, 0, 0, 0, 0x03, 0, 0, 0xFF, 0xFF, 0, 0, 0, 0],
     );
-    execute_line(
-        b"WRITE (32) of zero data, first tag FFFFFFFFh",
-        Description {
-            kind: 2,
-            block: 8,
-            exponent: 1,
-            first: 0,
-            count: 1,
-            ato: 0,
-        },
-        &mut [0xFF; 24],
+}
+
+fn write_of_type_2() {
+    let d = Description {
+        kind: 2,
+        block: 8,
+        exponent: 1,
+        first: 0,
+        count: 1,
+        ato: 0,
+    };
+    let mut segment = [0xFF; 24];
+    let mut buffer = [0; 8];
+    let a = execute::execute(
+        d,
+        &mut segment,
         b"\x7f\x00\x00\x00\x00\x00\x00\x18\x00\x0b\x00\x00\x00\x00\x00\x00\x00\x00\x00\x00\xff\xff\xff\xff\x00\x00\x00\x00\x00\x00\x00\x01",
-        &mut [0; 8],
+        &mut buffer,
+    );
+    result_lines(
+        b"WRITE (32) of zero data, first tag FFFFFFFFh",
+        a,
+        &segment,
+        &buffer,
     );
 }
 
@@ -87,21 +99,11 @@ fn on_m(name: &[u8], command: &[u8], buffer: &mut [u8]) {
     };
     let mut m =
         *b"\x00\x00\x00\x00\x00\x00\x00\x01\x8b\xb7\x00\x00\x00\x00\x00\x07\x00\x00\x00\x00\x00\x00\x00\x02\x9c\xd9\x00\x00\x00\x00\x00\x07\x00\x00\x00\x00\x00\x00\x00\x03\x00\x00\xff\xff\x00\x00\x00\x00";
-    execute_line(name, d, &mut m, command, buffer);
+    let a = execute::execute(d, &mut m, command, buffer);
+    result_lines(name, a, &m, buffer);
 }
 
 // What is asked, the answer's number, address and interval, and the lent bytes afterwards.
-fn execute_line(
-    name: &[u8],
-    d: Description,
-    segment: &mut [u8],
-    command: &[u8],
-    buffer: &mut [u8],
-) {
-    let a = execute::execute(d, segment, command, buffer);
-    result_lines(name, a, segment, buffer);
-}
-
 fn result_lines(name: &[u8], a: Answer, segment: &[u8], buffer: &[u8]) {
     io::write_all(1, name);
     answer_line(a);
