@@ -1,5 +1,4 @@
--- The laws of a line: its state and fields from the bytes of its interval, and its text, and that of the last line, from the
--- texts that they are printed as.
+-- The laws of a line: its state and fields from the bytes of its interval, and its text from the texts that it is printed as.
 -- Assumes nothing.
 use mathlib.Core.Path.{_≡_, ap, _∙_}
 use mathlib.Core.Bool.{Bool, true, false}
@@ -20,7 +19,7 @@ use Rattle.text.proofs.Digits.{decimal-most, hexadecimal-length}
 use Rattle.lines.specs.declared.Line.{Line}
 use Rattle.lines.specs.declared.State.{State}
 use Rattle.lines.specs.declared.State.the-variants.{Skipped, Guard, Ref, Ok}
-use Rattle.lines.specs.Lines.{worded, stateOf, lineOf, stateText, lineText, intervalsText, faultsText, skippedText, numbersText}
+use Rattle.lines.specs.Lines.{worded, stateOf, lineOf, stateText, lineText}
 
 -- ---- the state
 pub state-skipped : (r : Rules) (k : Bool) (p : Place) (s : List ℕ) → k ≡ true → Skipped ≡ stateOf r k p s
@@ -76,10 +75,3 @@ line-most l =
       hexadecimal-length 8 (l .reference),
       state-most (l .state),
     ))
-
--- ---- the last line
-module _ (l f k : ℕ) {at a b c d e z : ℕ} {o oa ob oc od oe oz : List ℕ} where
-  pub numbers-written : Written intervalsText at o a oa → Written (decimal l) a oa b ob → Written faultsText b ob c oc → Written (decimal f) c oc d od
-      → Written skippedText d od e oe → Written (decimal k ++ (0x0A ∷ [])) e oe z oz → Written (numbersText l f k) at o z oz
-  unfolding numbersText
-  numbers-written wa wb wc wd we wz = written-then wa (written-then wb (written-then wc (written-then wd (written-then we wz))))

@@ -15,7 +15,8 @@ use Rattle.field.proofs.Laws.{own-field}
 use Rattle.judge.specs.Judge.{nextInterval, nextBlock}
 use Rattle.judge.proofs.BlockLaws.{own-interval}
 use Rattle.lines.specs.declared.Line.{Line}
-use Rattle.lines.specs.Lines.{stateOf, lineOf, intervalLines, linesIn, blockLines}
+use Rattle.lines.specs.Lines.{stateOf, lineOf}
+use Rattle.sheet.specs.Sheet.{intervalLines, linesIn, blockLines}
 
 -- ---- the lines of the intervals of a block
 module _ (r : Rules) (k : Bool) where

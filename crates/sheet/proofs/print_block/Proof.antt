@@ -1,4 +1,4 @@
--- `listing::print_block`: the lines that are printed, and those of the intervals that are left, make up the block's.
+-- `sheet::print_block`: the lines that are printed, and those of the intervals that are left, make up the block's.
 -- Assumes nothing.
 use mathlib.Core.Path.{_≡_, sym, ap, _∙_}
 use mathlib.Core.Bool.{Bool}
@@ -14,13 +14,14 @@ use Rattle.interval.specs.Interval.{anyEscapes}
 use Rattle.judge.specs.Judge.{nextInterval, Run}
 use Rattle.text.proofs.Writing.{written-length}
 use Rattle.lines.specs.declared.Line.{Line}
-use Rattle.lines.specs.declared.Sheet.{Sheet}
-use Rattle.lines.specs.Lines.{lineOf, intervalLines, linesIn, Printed, Room}
-use Rattle.listing.proofs.SheetLaws.{printed-none, printed-then, printed-as, room-next, room-less}
-use Rattle.listing.proofs.BlockLaws.{interval-turn, own-line, intervals-none}
+use Rattle.sheet.specs.declared.Sheet.{Sheet}
+use Rattle.lines.specs.Lines.{lineOf}
+use Rattle.sheet.specs.Sheet.{intervalLines, linesIn, Printed, Room}
+use Rattle.sheet.proofs.SheetLaws.{printed-none, printed-then, printed-as, room-next, room-less}
+use Rattle.sheet.proofs.BlockLaws.{interval-turn, own-line, intervals-none}
 use borrow.Author.Needs.{needs}
-use Rattle.listing.proofs.print_block.Statement.{statement}
-use Rattle.listing.proofs.print_block.Tie as tie
+use Rattle.sheet.proofs.print_block.Statement.{statement}
+use Rattle.sheet.proofs.print_block.Tie as tie
 
 record Going (r : Rules) (k : Bool) (p : Place) (s : List ℕ) (t : Sheet) (out₀ out : List ℕ) (left : ℕ) (here : Place) (number : ℕ) (u : Sheet) (i : ℕ) : Type 0 where
   from : i + left * (r .size + 8) ≡ length s

@@ -1,4 +1,4 @@
--- `listing::print_blocks`: the lines that are printed, and those of the blocks that are left, make up all of them.
+-- `sheet::print_blocks`: the lines that are printed, and those of the blocks that are left, make up all of them.
 -- Assumes nothing.
 use mathlib.Core.Path.{_≡_, refl, sym, ap, _∙_}
 use mathlib.Core.List.{List, [], _++_, append-assoc, append-nil}
@@ -14,13 +14,13 @@ use Rattle.judge.specs.Judge.{nextBlock, Run}
 use Rattle.judge.proofs.BlockLaws.{first-within, first-run, first-room, rest-run, block-fits}
 use Rattle.text.proofs.Writing.{written-length}
 use Rattle.lines.specs.declared.Line.{Line}
-use Rattle.lines.specs.declared.Sheet.{Sheet}
-use Rattle.lines.specs.Lines.{linesIn, blockLines, Printed, Room}
-use Rattle.listing.proofs.SheetLaws.{printed-none, printed-then, printed-as, room-next, room-less}
-use Rattle.listing.proofs.BlockLaws.{block-turn, own-block-lines, blocks-none, block-length}
+use Rattle.sheet.specs.declared.Sheet.{Sheet}
+use Rattle.sheet.specs.Sheet.{linesIn, blockLines, Printed, Room}
+use Rattle.sheet.proofs.SheetLaws.{printed-none, printed-then, printed-as, room-next, room-less}
+use Rattle.sheet.proofs.BlockLaws.{block-turn, own-block-lines, blocks-none, block-length}
 use borrow.Author.Needs.{needs}
-use Rattle.listing.proofs.print_blocks.Statement.{statement}
-use Rattle.listing.proofs.print_blocks.Tie as tie
+use Rattle.sheet.proofs.print_blocks.Statement.{statement}
+use Rattle.sheet.proofs.print_blocks.Tie as tie
 
 record Going (r : Rules) (count : ℕ) (p : Place) (s : List ℕ) (t : Sheet) (out₀ out : List ℕ) (left : ℕ) (here : Place) (u : Sheet) (i : ℕ) : Type 0 where
   inside : i ≤ length s

@@ -1,15 +1,15 @@
--- `lines::print_total`: words and numbers, one after another, each with room left for those behind it.
+-- `listing::print_total`: words and numbers, one after another, each with room left for those behind it.
 -- Assumes nothing.
 use mathlib.Core.Path.{refl}
 use Prim.Native.Nat.{_+_, _≤_, _^_}
 use native.Mathlib.Omega.{arith}
 use Rattle.text.proofs.Writing.{written-length}
 use Rattle.text.proofs.Digits.{decimal-end}
-use Rattle.lines.specs.Lines.{intervalsText, faultsText, skippedText}
-use Rattle.lines.proofs.LineLaws.{numbers-written}
+use Rattle.listing.specs.Listing.{intervalsText, faultsText, skippedText}
+use Rattle.listing.proofs.ListingLaws.{numbers-written}
 use borrow.Author.Needs.{needs}
-use Rattle.lines.proofs.print_total.Statement.{statement}
-use Rattle.lines.proofs.print_total.Tie as tie
+use Rattle.listing.proofs.print_total.Statement.{statement}
+use Rattle.listing.proofs.print_total.Tie as tie
 
 -- the room behind each text
 room1 : (c : tie.After-put-word) → c .put-word .result + 78 ≤ 2 ^ 32

@@ -1,10 +1,10 @@
--- `listing::print_interval`: one line, printed and counted.
+-- `sheet::print_interval`: one line, printed and counted.
 -- Assumes nothing.
 use native.Mathlib.Omega.{arith}
-use Rattle.listing.proofs.SheetLaws.{faulty-most, skips-most, printed-one}
+use Rattle.sheet.proofs.SheetLaws.{faulty-most, skips-most, printed-one}
 use borrow.Author.Needs.{needs}
-use Rattle.listing.proofs.print_interval.Statement.{statement}
-use Rattle.listing.proofs.print_interval.Tie as tie
+use Rattle.sheet.proofs.print_interval.Statement.{statement}
+use Rattle.sheet.proofs.print_interval.Tie as tie
 
 add-t16 : tie.Need-add-t16
 add-t16 c =

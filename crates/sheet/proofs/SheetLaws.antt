@@ -1,6 +1,6 @@
 -- The laws of lines that are printed and counted: none, one, some after others; and the room that they leave.
 -- Assumes nothing.
-use mathlib.Core.Path.{_≡_, refl, sym}
+use mathlib.Core.Path.{_≡_, refl, sym, ap, _∙_}
 use mathlib.Core.List.{List, [], _∷_, _++_, append-assoc, append-nil}
 use Prim.Native.Nat.{ℕ, _+_, _*_, _^_, _≤_}
 use native.Mathlib.Nat.{add-zero}
@@ -9,10 +9,11 @@ use lib.ListN.{length, length-append}
 use Rattle.text.specs.Laid.{Written}
 use Rattle.text.proofs.Writing.{written-none, written-then, written-as}
 use Rattle.lines.specs.declared.Line.{Line}
-use Rattle.lines.specs.declared.Sheet.{Sheet}
+use Rattle.sheet.specs.declared.Sheet.{Sheet}
 use Rattle.lines.specs.declared.State.{State}
 use Rattle.lines.specs.declared.State.the-variants.{Skipped, Guard, Ref, Ok}
-use Rattle.lines.specs.Lines.{faulty, skips, countOf, lineText, linesText, Printed, Room}
+use Rattle.lines.specs.Lines.{lineText}
+use Rattle.sheet.specs.Sheet.{faulty, skips, countOf, linesText, Printed, Room}
 use Rattle.lines.proofs.LineLaws.{line-most}
 
 pub faulty-most : (x : State) → faulty x ≤ 1
@@ -78,6 +79,14 @@ printed-then {a} {b} p q =
       faults = omega (arith, p .faults, q .faults, count-append faulty a b);
       skipped = omega (arith, p .skipped, q .skipped, count-append skips a b);
     }
+
+-- a sheet is its four numbers
+pub same-sheet : (x y : Sheet) → x .at ≡ y .at → x .lines ≡ y .lines → x .faults ≡ y .faults → x .skipped ≡ y .skipped → x ≡ y
+same-sheet x y at ls f k =
+    ap (λ (n : ℕ). sheet n (x .lines) (x .faults) (x .skipped)) at
+    ∙ ap (λ (n : ℕ). sheet (y .at) n (x .faults) (x .skipped)) ls
+    ∙ ap (λ (n : ℕ). sheet (y .at) (y .lines) n (x .skipped)) f
+    ∙ ap (sheet (y .at) (y .lines) (y .faults)) k
 
 -- the same lines, put in another way
 pub printed-as : {a b : List Line} {t u : Sheet} {out left : List ℕ} → a ≡ b → Printed a t out u left → Printed b t out u left
