@@ -4,7 +4,7 @@
 use mathlib.Core.Path.{_≡_, sym, ap, _∙_}
 use denote.Ref.{now}
 use Rattle.answer.specs.Outcome.{Outcome}
-use Rattle.transfer.specs.Lent.{Lent}
+use Rattle.execute.specs.Lent.{Lent}
 use Rattle.execute.proofs.execute.Reads as execute-reads
 
 pub execute : (κs : _) (a : _) (x y : _) (s t : _) → execute-reads.Post κs a x s → execute-reads.Post κs a y t → (x ≡ y) × (now (s .1 .0) ≡ now (t .1 .0)) × (now (s .1 .1 .1 .0) ≡ now (t .1 .1 .1 .0))

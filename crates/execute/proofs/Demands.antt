@@ -47,16 +47,20 @@ use Rattle.admission.specs.declared.Admitted.the-variants.{Refused, Go}
 use Rattle.admission.specs.Admission.{admitted}
 use Rattle.admission.specs.Ready.{Ready}
 use Rattle.admission.proofs.Ready.{admitted-served, admitted-ready}
-use Rattle.transfer.specs.Lent.{Lent, lent, lengthsOf}
-use Rattle.transfer.specs.Transfer.{blocksOf, underCheck, judgedOn, judged, whole, handed, received, overwritten, movedFor, performed}
+use Rattle.execute.specs.Lent.{Lent, lent, lengthsOf}
+use Rattle.transfer.specs.Transfer.{blocksOf, judgedOn, judged, whole, handed, received}
 use Rattle.transfer.proofs.Shapes.{whole-code, whole-not, received-whole, judged-none, judged-all}
-use Rattle.execute.specs.Execute.{executedAs, executed}
+use Rattle.execute.specs.Execute.{underCheck, overwritten, movedFor, performed, executedAs, executed}
 use Rattle.execute.specs.Compared.{Alike, Beside, asRead}
 use Rattle.execute.specs.Checked.{FirstWrong, AllRight, WrongInterval}
 use Rattle.execute.proofs.Wrong.{side-good, side-wrong, interval-verdict}
 use Rattle.execute.proofs.Accepted.{inserted-accepted, received-accepted}
 use Rattle.execute.proofs.InOrder.{not-in-order-names-no-interval}
 use Rattle.execute.proofs.Stored.{enough, inserted, beside-itself, overwritten-beside, overwritten-there, handed-back, same-blocks}
+
+-- the verdict on both sides of what is lent
+abbrev verdict : Description → Command → Lent → Answer
+verdict d c l = judged d c (underCheck Sent d c l) (underCheck Stored d c l)
 
 -- ---- what an operation leaves alone, and what it does
 module _ (a : Answer) (d : Description) (c : Command) (l : Lent) where
@@ -100,7 +104,7 @@ module _ (d : Description) (c : Command) (l m : Lent) (e : blocksOf d c (l .segm
   sent-none Write n = absurd (n refl)
   sent-none Verify n = refl
 
-  judged-alike : (c .operation ≡ Write → ⊥) → judged d c l ≡ judged d c m
+  judged-alike : (c .operation ≡ Write → ⊥) → verdict d c l ≡ verdict d c m
   unfolding judged
   judged-alike n =
       let none = checked-none Sent d c (sent-none (c .operation) n) in
@@ -114,8 +118,8 @@ module _ (d : Description) (c : Command) (l m : Lent) (e : blocksOf d c (l .segm
         answer = same;
         filled =
             λ r g.
-            handed-for (judged d c l) d c l (c .operation) r g
-            ∙ ap (handed d c) e ∙ sym (handed-for (judged d c m) d c m (c .operation) r (ap isGood (sym same) ∙ g));
+            handed-for (verdict d c l) d c l (c .operation) r g
+            ∙ ap (handed d c) e ∙ sym (handed-for (verdict d c m) d c m (c .operation) r (ap isGood (sym same) ∙ g));
       }
 
 -- ---- what a served command's admission can be
@@ -140,7 +144,7 @@ module _ (d : Description) (command : List ℕ) (l : Lent) where
     where
       by : (x : Admitted) → isGood (executedAs x d l .answer) ≡ false → executedAs x d l .left ≡ l
       by (Refused a) w = refl
-      by (Go c) w = refused-leaves (judged d c l) l (movedFor (c .operation) d c l) w
+      by (Go c) w = refused-leaves (verdict d c l) l (movedFor (c .operation) d c l) w
 
   module _ (c : Command) (served : decode command ≡ Served c) where
     admitted-settled : Settled c (admitted d (lengthsOf l) command)
@@ -172,22 +176,22 @@ module _ (d : Description) (command : List ℕ) (l : Lent) where
     unfolding performed
     read-or-verify-leaves-segment n =
         served-outcome (λ o. o .left .segment ≡ l .segment) (λ a g. refl)
-        (λ r. left-by (judged d c l) d c l (λ x. x .segment ≡ l .segment) refl (c .operation) (segment-for (judged d c l) d c l (c .operation) n))
+        (λ r. left-by (verdict d c l) d c l (λ x. x .segment ≡ l .segment) refl (c .operation) (segment-for (verdict d c l) d c l (c .operation) n))
 
     -- the buffer is a READ's answer alone
     pub write-or-verify-leaves-buffer : (c .operation ≡ Read → ⊥) → executed d command l .left .buffer ≡ l .buffer
     unfolding performed
     write-or-verify-leaves-buffer n =
         served-outcome (λ o. o .left .buffer ≡ l .buffer) (λ a g. refl)
-        (λ r. left-by (judged d c l) d c l (λ x. x .buffer ≡ l .buffer) refl (c .operation) (buffer-for (judged d c l) d c l (c .operation) n))
+        (λ r. left-by (verdict d c l) d c l (λ x. x .buffer ≡ l .buffer) refl (c .operation) (buffer-for (verdict d c l) d c l (c .operation) n))
 
     -- "On a good WRITE the transfer's own blocks of the segment are overwritten and no other"
     pub good-write-keeps-other-blocks : Beside d c (l .segment) (executed d command l .left .segment)
     unfolding performed
     good-write-keeps-other-blocks =
         served-outcome (λ o. Beside d c (l .segment) (o .left .segment)) (λ a g. beside-itself d c (l .segment))
-        (λ r. left-by (judged d c l) d c l (λ x. Beside d c (l .segment) (x .segment)) (beside-itself d c (l .segment)) (c .operation)
-        (beside-for (judged d c l) d c l (c .operation) (overwritten-beside d c l r)))
+        (λ r. left-by (verdict d c l) d c l (λ x. Beside d c (l .segment) (x .segment)) (beside-itself d c (l .segment)) (c .operation)
+        (beside-for (verdict d c l) d c l (c .operation) (overwritten-beside d c l r)))
 
     -- "received fields are stored as received"; with 000 they are inserted
     pub good-write-stores : c .operation ≡ Write → isGood (executed d command l .answer) ≡ true
@@ -197,7 +201,7 @@ module _ (d : Description) (command : List ℕ) (l : Lent) where
         served-outcome
         (λ o. isGood (o .answer) ≡ true → Ready d c (lengthsOf l) × (blocksOf d c (o .left .segment) ≡ received d c (l .buffer)))
         (λ a b g. absurd (true≢false (sym g ∙ b)))
-        (λ r g. (r, ap (blocksOf d c) (stored-for (judged d c l) d c l (c .operation) w g) ∙ overwritten-there d c l r w))
+        (λ r g. (r, ap (blocksOf d c) (stored-for (verdict d c l) d c l (c .operation) w g) ∙ overwritten-there d c l r w))
 
     -- "A good READ fills its buffer with the transfer's blocks in order"
     pub good-read-hands-out : c .operation ≡ Read → isGood (executed d command l .answer) ≡ true
@@ -206,7 +210,7 @@ module _ (d : Description) (command : List ℕ) (l : Lent) where
     good-read-hands-out w =
         served-outcome (λ o. isGood (o .answer) ≡ true → o .left .buffer ≡ handed d c (blocksOf d c (l .segment)))
         (λ a b g. absurd (true≢false (sym g ∙ b)))
-        (λ r g. handed-for (judged d c l) d c l (c .operation) w g)
+        (λ r g. handed-for (verdict d c l) d c l (c .operation) w g)
 
 -- "The answer of a READ or VERIFY depends on the description, the command, the lengths and the transfer's blocks, on no other block."
 pub own-blocks-alone : (d : Description) (command : List ℕ) (l m : Lent) (c : Command) → decode command ≡ Served c → (c .operation ≡ Write → ⊥)

@@ -37,7 +37,7 @@ use Rattle.words.proofs.Parts.{one-more, drop-more}
 use Rattle.rules.specs.Rules.{firstTag}
 use Rattle.rules.specs.Inserted.{insertedReference, marksOf}
 use Rattle.admission.specs.Ready.{Ready}
-use Rattle.transfer.specs.Lent.{Lent, lengthsOf}
+use Rattle.execute.specs.Lent.{Lent, lengthsOf}
 use Rattle.transfer.specs.Transfer.{blocksOf, received}
 use Rattle.execute.specs.Execute.{executed}
 use Rattle.execute.specs.Inserted.{insertedReferenceAt, userDataAt, InsertedAt}

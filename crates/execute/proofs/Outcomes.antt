@@ -11,7 +11,7 @@ use lib.ListN.{length, take, drop}
 use Rattle.words.specs.Parts.{put}
 use Rattle.words.proofs.BigEndian.{part-length}
 use Rattle.words.proofs.Choice.{never}
-use Rattle.answer.specs.Answer.{isGood, orElse}
+use Rattle.answer.specs.Answer.{isGood}
 use Rattle.answer.specs.Outcome.{outcome}
 use Rattle.answer.specs.declared.Answer.{Answer}
 use Rattle.segment.specs.declared.Description.{Description}
@@ -24,17 +24,17 @@ use Rattle.command.specs.declared.Operation.the-variants.{Read, Write, Verify}
 use Rattle.refusal.specs.declared.Lengths.{Lengths}
 use Rattle.refusal.specs.Refusal.{isVerify}
 use Rattle.refusal.proofs.Rules.{room-moved}
-use Rattle.rules.specs.declared.Side.the-variants.{Sent, Stored}
+use Rattle.rules.specs.declared.Side.the-variants.{Sent}
 use Rattle.rules.specs.Sides.{checksOn}
 use Rattle.rules.proofs.Laws.{checks-all}
 use Rattle.admission.specs.declared.Admitted.the-variants.{Refused, Go}
 use Rattle.admission.specs.Admission.{admitted}
 use Rattle.admission.specs.Ready.{Ready}
-use Rattle.transfer.specs.Lent.{Lent, lent, lengthsOf}
-use Rattle.transfer.specs.Transfer.{blocksOf, judgedOn, judged, handed, received, overwritten, movedFor, performed}
+use Rattle.execute.specs.Lent.{Lent, lent, lengthsOf}
+use Rattle.transfer.specs.Transfer.{blocksOf, judged, handed, received}
 use Rattle.transfer.specs.Inner.{Shaped, Sided, Fitted}
 use Rattle.transfer.proofs.Shapes.{moved-span}
-use Rattle.execute.specs.Execute.{executed}
+use Rattle.execute.specs.Execute.{overwritten, movedFor, performed, executed}
 
 -- ---- what admission settled
 module _ {d : Description} {c : Command} {l : Lengths} (r : Ready d c l) where
@@ -74,10 +74,9 @@ blocks-are d c at w segment e f = let same : at + w - at ≡ w = omega arith in 
 
 -- ---- judged, and by the operation
 module _ (d : Description) (c : Command) (segment buffer stored : List ℕ) (a : Answer) (g : Bool) (s : stored ≡ blocksOf d c segment)
-    (e : a ≡ orElse (judgedOn Sent d c buffer) (judgedOn Stored d c stored)) (t : g ≡ isGood a) where
-  judged-is : a ≡ judged d c (lent segment buffer)
-  unfolding judged
-  judged-is = e ∙ ap (λ (x : List ℕ). orElse (judgedOn Sent d c buffer) (judgedOn Stored d c x)) s
+    (e : a ≡ judged d c buffer stored) (t : g ≡ isGood a) where
+  judged-is : a ≡ judged d c buffer (blocksOf d c segment)
+  judged-is = e ∙ ap (judged d c buffer) s
 
   pub refused-performed : not g ≡ true → outcome a (lent segment buffer) ≡ performed d c (lent segment buffer)
   unfolding performed

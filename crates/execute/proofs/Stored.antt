@@ -23,8 +23,9 @@ use Rattle.rules.specs.Inserted.{marksOf}
 use Rattle.refusal.specs.Refusal.{isVerify, movedOf}
 use Rattle.refusal.proofs.Rules.{room-moved}
 use Rattle.admission.specs.Ready.{Ready}
-use Rattle.transfer.specs.Lent.{Lent, lengthsOf}
-use Rattle.transfer.specs.Transfer.{blocksOf, whole, handed, received, overwritten}
+use Rattle.execute.specs.Lent.{Lent, lengthsOf}
+use Rattle.transfer.specs.Transfer.{blocksOf, whole, handed, received}
+use Rattle.execute.specs.Execute.{overwritten}
 use Rattle.execute.specs.Compared.{Beside}
 use Rattle.transfer.proofs.Shapes.{span-intervals, moved-intervals, moved-when-whole, parted, handed-whole, handed-parted, received-whole, received-parted}
 
