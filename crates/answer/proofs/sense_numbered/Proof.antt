@@ -17,8 +17,23 @@ plain false = refl
 -- a number without a sense
 none : (n : ℕ) → (n ≡ 5 → ⊥) → (n ≡ 6 → ⊥) → (n ≡ 7 → ⊥) → (n ≡ 8 → ⊥) → (n ≡ 9 → ⊥) → (n ≡ 10 → ⊥) → (n ≡ 12 → ⊥) → 0 ≡ senseNumbered n
 none n a b c d e f g =
-    rw (ne-eqb n 5 a, ne-eqb n 6 b, ne-eqb n 7 c, ne-eqb n 8 d, ne-eqb n 9 e, ne-eqb n 10 f, ne-eqb n 12 g, plain (eqb n 14), plain (eqb n 13), plain (eqb n 11),
-    plain (eqb n 4), plain (eqb n 3), plain (eqb n 2), plain (eqb n 1), plain (eqb n 0))
+    rw (
+      ne-eqb n 5 a,
+      ne-eqb n 6 b,
+      ne-eqb n 7 c,
+      ne-eqb n 8 d,
+      ne-eqb n 9 e,
+      ne-eqb n 10 f,
+      ne-eqb n 12 g,
+      plain (eqb n 14),
+      plain (eqb n 13),
+      plain (eqb n 11),
+      plain (eqb n 4),
+      plain (eqb n 3),
+      plain (eqb n 2),
+      plain (eqb n 1),
+      plain (eqb n 0),
+    )
 
 returns : tie.Need-returns
 returns c = rw (c .match .keys1)
