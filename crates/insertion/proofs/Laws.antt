@@ -12,7 +12,7 @@ use Rattle.words.proofs.BigEndian.{bytes-length}
 use Rattle.words.proofs.Parts.{take-bytes}
 use Rattle.guard.specs.Guard.{guard}
 use Rattle.guard.proofs.Laws.{guard-lt}
-use Rattle.blocks.specs.Blocks.{stripped}
+use Rattle.blocks.specs.Blocks.{userData}
 use Rattle.blocks.proofs.Places.{append-bytes, bytes-bytes, number-there}
 use Rattle.blocks.proofs.Pieces.{runs-length, runs-bytes, runs-behind, runs-read, runs-lots}
 use Rattle.insertion.specs.declared.Marks.{Marks}
@@ -90,20 +90,20 @@ module _ (size : ℕ) (m : Marks) (s r : List ℕ) (h : size ≤ length s) where
       ap (drop size) (append-assoc (take size s) (fieldBytes m (take size s)) r)
       ∙ drop-at (take size s) (fieldBytes m (take size s) ++ r) size (length-take-le size s h)
 
-pub block-read-on : (size n : ℕ) (m : Marks) (s r : List ℕ) → n * size ≤ length s → stripped size n (storedBlock size n m s ++ r) ≡ take (n * size) s
-unfolding stripped storedBlock
+pub block-read-on : (size n : ℕ) (m : Marks) (s r : List ℕ) → n * size ≤ length s → userData size n (storedBlock size n m s ++ r) ≡ take (n * size) s
+unfolding userData storedBlock
 block-read-on size n m s r h = runs-read (withField size) (later 1) size (take size) (size + 8) (interval-read-on size) (interval-length size) n m s r h
 
-pub block-read : (size n : ℕ) (m : Marks) (s : List ℕ) → n * size ≤ length s → stripped size n (storedBlock size n m s) ≡ take (n * size) s
+pub block-read : (size n : ℕ) (m : Marks) (s : List ℕ) → n * size ≤ length s → userData size n (storedBlock size n m s) ≡ take (n * size) s
 block-read size n m s h = rw append-nil at (block-read-on size n m s [] h)
 
-pub blocks-read-on : (size n k : ℕ) (m : Marks) (s r : List ℕ) → k * (n * size) ≤ length s → stripped size (k * n) (storedBlocks size n k m s ++ r) ≡ take (k * (n * size)) s
-unfolding stripped storedBlocks
+pub blocks-read-on : (size n k : ℕ) (m : Marks) (s r : List ℕ) → k * (n * size) ≤ length s → userData size (k * n) (storedBlocks size n k m s ++ r) ≡ take (k * (n * size)) s
+unfolding userData storedBlocks
 blocks-read-on size n k m s r h =
     runs-lots (λ (u : ℕ) (l : List ℕ). take size l) (size + 8) 0 n k (runs (storedBlock size n) (later n) (n * size) k m s ++ r)
-    ∙ runs-read (storedBlock size n) (later n) (n * size) (stripped size n) (n * (size + 8)) (block-read-on size n) (block-length size n) k m s r h
+    ∙ runs-read (storedBlock size n) (later n) (n * size) (userData size n) (n * (size + 8)) (block-read-on size n) (block-length size n) k m s r h
 
-pub blocks-read : (size n k : ℕ) (m : Marks) (s : List ℕ) → k * (n * size) ≤ length s → stripped size (k * n) (storedBlocks size n k m s) ≡ take (k * (n * size)) s
+pub blocks-read : (size n k : ℕ) (m : Marks) (s : List ℕ) → k * (n * size) ≤ length s → userData size (k * n) (storedBlocks size n k m s) ≡ take (k * (n * size)) s
 blocks-read size n k m s h = rw append-nil at (blocks-read-on size n k m s [] h)
 
 -- ---- the fields written are the fields read
