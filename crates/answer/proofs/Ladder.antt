@@ -4,6 +4,7 @@ use mathlib.Core.Path.{_≡_, refl, sym, ap, _∙_}
 use mathlib.Core.Logic.{_↔_, _⊎_, inl, inr, ⊎-elim}
 use mathlib.Core.Bool.{Bool, true, false, not, cond, true≢false}
 use borrow.Author.Tests.{not-true, not-false}
+use lib.Dec.{T}
 use Rattle.answer.specs.Answer.{isGood, orElse, refusedIf}
 use Rattle.answer.specs.declared.Answer.{Answer}
 use Rattle.answer.specs.declared.Answer.the-variants.{Good, Wrong, Refused}
@@ -65,3 +66,12 @@ all-good a b e = rw e
 pub not-refused : (b : Bool) (r : Reason) → isGood (refusedIf b r) ≡ true → b ≡ false
 not-refused true r e = absurd (true≢false (sym e))
 not-refused false r e = refl
+
+-- a rule that demands something
+pub met : (b : Bool) (r : Reason) → T b → refusedIf (not b) r ≡ Good
+met true r t = refl
+met false r t = absurd t
+
+pub unmet : (b : Bool) (r : Reason) → (T b → ⊥) → refusedIf (not b) r ≡ Refused r
+unmet true r n = absurd (n tt)
+unmet false r n = refl

@@ -1,3 +1,4 @@
 pub mod Demands
 pub mod Ladder
+pub mod Outcome
 pub mod Coincide

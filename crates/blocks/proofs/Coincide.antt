@@ -3,11 +3,11 @@
 -- Assumes nothing.
 use mathlib.Core.Path.{_≡_, sym, _∙_}
 use denote.Ref.{now}
-use Rattle.blocks.proofs.strip.Reads as strip-reads
+use Rattle.blocks.proofs.take_user_data.Reads as take-user-data-reads
 use Rattle.blocks.proofs.store_blocks.Reads as store-blocks-reads
 
-pub strip : (κs : _) (a : _) (x y : _) (s t : _) → strip-reads.Post κs a x s → strip-reads.Post κs a y t → now (s .0) ≡ now (t .0)
-strip κs a x y s t p q = p ∙ sym q
+pub take-user-data : (κs : _) (a : _) (x y : _) (s t : _) → take-user-data-reads.Post κs a x s → take-user-data-reads.Post κs a y t → now (s .0) ≡ now (t .0)
+take-user-data κs a x y s t p q = p ∙ sym q
 
 pub store-blocks : (κs : _) (a : _) (x y : _) (s t : _) → store-blocks-reads.Post κs a x s → store-blocks-reads.Post κs a y t → now (s .0) ≡ now (t .0)
 store-blocks κs a x y s t p q = p ∙ sym q

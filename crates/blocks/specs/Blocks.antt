@@ -5,5 +5,5 @@ use lib.ListN.{take}
 use Rattle.words.specs.Runs.{runs}
 
 -- the user data of k stored intervals, without their fields
-unfoldable pub stripped : ℕ → ℕ → List ℕ → List ℕ
-stripped size k s = runs (λ (t : ℕ) (l : List ℕ). take size l) (λ t. t) (size + 8) k 0 s
+unfoldable pub userData : ℕ → ℕ → List ℕ → List ℕ
+userData size k s = runs (λ (t : ℕ) (l : List ℕ). take size l) (λ t. t) (size + 8) k 0 s

@@ -3,13 +3,13 @@ ghost use mathlib.Core.Path.{_≡_};
 ghost use Prim.Native.Nat.{_+_, _*_, _≤_};
 ghost use lib.ListN.{length};
 ghost use Rattle.words.specs.Parts.{put};
-ghost use Rattle.blocks.specs.Blocks.{stripped};
+ghost use Rattle.blocks.specs.Blocks.{userData};
 
 // Fills `d` with the user data of `count` stored intervals of `size` data bytes.
-pub fn strip(d: &mut [u8], s: &[u8], size: usize, count: usize)
+pub fn take_user_data(d: &mut [u8], s: &[u8], size: usize, count: usize)
     requires { ⌜ count * (size + 8) ≡ length (now s) ⌝ }
     requires { ⌜ count * size ≡ length (now d) ⌝ }
-    ensures { λ _. ⌜ now (d .exit) ≡ stripped size count (now (s .entry)) ⌝ }
+    ensures { λ _. ⌜ now (d .exit) ≡ userData size count (now (s .entry)) ⌝ }
 {
     let mut left = count;
     let mut i: usize = 0;

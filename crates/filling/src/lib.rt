@@ -2,9 +2,9 @@
 ghost use mathlib.Core.Path.{_≡_};
 ghost use Prim.Native.Nat.{_*_, _+_};
 ghost use lib.ListN.{length};
-ghost use Rattle.filling.specs.Fresh.{filled, filledOf, freshInterval, freshIntervals};
+ghost use Rattle.answer.specs.Outcome.{outcome};
+ghost use Rattle.filling.specs.Fresh.{filled, freshInterval, freshIntervals};
 use answer::Answer;
-use answer::Reason;
 use segment::Description;
 
 // Makes `d` a fresh interval of `size` data bytes: data zero, every field byte FFh.
@@ -33,13 +33,11 @@ fn fill_intervals(d: &mut [u8], size: usize, count: usize)
 
 // Fills the segment: data zero, every field byte FFh.
 pub fn fill(d: Description, segment: &mut [u8]) -> Answer
-    ensures { λ r. ⌜ filled r (now (segment .exit)) ≡ filledOf d (now (segment .entry)) ⌝ }
+    ensures { λ r. ⌜ outcome r (now (segment .exit)) ≡ filled d (now (segment .entry)) ⌝ }
 {
-    if !segment::fit(d) {
-        return Answer::Refused(Reason::DescriptionBad);
-    }
-    if segment.len() != segment::length(d) {
-        return Answer::Refused(Reason::SegmentLengthWrong);
+    let a = segment::segment_rules(d, segment.len());
+    if !answer::good(a) {
+        return a;
     }
     if d.kind == 0 {
         words::fill_with(segment, 0);

@@ -5,7 +5,7 @@ use mathlib.Core.Bool.{true, false}
 use Prim.Native.Nat.{ℕ}
 use lib.Dec.{T, leb, leb→le}
 use Rattle.words.proofs.Choice.{and-left, and-right, chosen, not-chosen}
-use Rattle.answer.specs.declared.Answer.the-variants.{Field}
+use Rattle.answer.specs.declared.Reason.the-variants.{FieldInvalid}
 use Rattle.format.specs.Choice.{choiceOf, ranges, look, table9, sentences, illegal}
 use Rattle.format.proofs.Sentences.{same}
 
@@ -16,11 +16,11 @@ within-ranges s p f u e =
     let all : T (ranges s p f u) = rw e tt in
     let pfu = and-right (leb s 7) _ all in
     let fu = and-right (leb p 1) _ pfu in
-    chosen (ranges s p f u) (look table9 s p f u) (illegal Field) all
+    chosen (ranges s p f u) (look table9 s p f u) (illegal FieldInvalid) all
     ∙ same s p f u (leb→le s 7 (and-left (leb s 7) _ all)) (leb→le p 1 (and-left (leb p 1) _ pfu))
     (leb→le f 3 (and-left (leb f 3) _ fu)) (leb→le u 7 (and-right (leb f 3) _ fu))
 
 -- "outside these 6"
-pub outside-ranges : (s p f u : ℕ) → ranges s p f u ≡ false → choiceOf s p f u ≡ illegal Field
+pub outside-ranges : (s p f u : ℕ) → ranges s p f u ≡ false → choiceOf s p f u ≡ illegal FieldInvalid
 unfolding choiceOf
-outside-ranges s p f u e = not-chosen (ranges s p f u) (look table9 s p f u) (illegal Field) (λ t. rw e at t)
+outside-ranges s p f u e = not-chosen (ranges s p f u) (look table9 s p f u) (illegal FieldInvalid) (λ t. rw e at t)

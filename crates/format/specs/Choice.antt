@@ -3,8 +3,9 @@ use Prim.Native.Nat.{ℕ}
 use mathlib.Core.Bool.{Bool, true, false, not, _&&_, _||_, cond}
 use mathlib.Core.List.{List, [], _∷_}
 use lib.Dec.{eqb, leb, ltb}
-use Rattle.answer.specs.declared.Answer.{Answer}
-use Rattle.answer.specs.declared.Answer.the-variants.{Good, Field, Parameter}
+use Rattle.answer.specs.declared.Answer.the-variants.{Good, Refused}
+use Rattle.answer.specs.declared.Reason.{Reason}
+use Rattle.answer.specs.declared.Reason.the-variants.{FieldInvalid, ParameterInvalid}
 use Rattle.format.specs.declared.Choice.{Choice}
 
 -- an entry of the table: any value, one of some values, or any above a value
@@ -34,8 +35,8 @@ abbrev pub formatted : ℕ → Choice
 formatted t = record { answer = Good; kind = t }
 
 -- "Illegal": in the command, or in the parameter list
-abbrev pub illegal : Answer → Choice
-illegal a = record { answer = a; kind = 0 }
+abbrev pub illegal : Reason → Choice
+illegal r = record { answer = Refused r; kind = 0 }
 
 abbrev pub row : Entry → Entry → Entry → Entry → Choice → Row
 row s p f u g = record { spt = s; protect = p; fmtpinfo = f; usage = u; gives = g }
@@ -47,28 +48,28 @@ is n = only (n ∷ [])
 abbrev pub table9 : List Row
 table9 =
     row any (is 0) (is 0b00) (is 0b000) (formatted 0)
-    ∷ row any (is 0) (is 0b00) (above 0b000) (illegal Parameter)
-    ∷ row any (is 0) (is 0b01) any (illegal Field)
-    ∷ row any (is 0) (only (0b10 ∷ 0b11 ∷ [])) any (illegal Field)
+    ∷ row any (is 0) (is 0b00) (above 0b000) (illegal ParameterInvalid)
+    ∷ row any (is 0) (is 0b01) any (illegal FieldInvalid)
+    ∷ row any (is 0) (only (0b10 ∷ 0b11 ∷ [])) any (illegal FieldInvalid)
     ∷ row any (is 1) (is 0b00) (is 0b000) (formatted 0)
-    ∷ row any (is 1) (is 0b00) (above 0b000) (illegal Parameter)
-    ∷ row any (is 1) (is 0b01) any (illegal Field)
+    ∷ row any (is 1) (is 0b00) (above 0b000) (illegal ParameterInvalid)
+    ∷ row any (is 1) (is 0b01) any (illegal FieldInvalid)
     ∷ row (only (0b000 ∷ 0b001 ∷ 0b011 ∷ [])) (is 1) (is 0b10) (is 0b000) (formatted 1)
-    ∷ row (only (0b000 ∷ 0b001 ∷ 0b011 ∷ [])) (is 1) (is 0b10) (above 0b000) (illegal Parameter)
-    ∷ row (is 0b000) (is 1) (is 0b11) any (illegal Field)
+    ∷ row (only (0b000 ∷ 0b001 ∷ 0b011 ∷ [])) (is 1) (is 0b10) (above 0b000) (illegal ParameterInvalid)
+    ∷ row (is 0b000) (is 1) (is 0b11) any (illegal FieldInvalid)
     ∷ row (is 0b001) (is 1) (is 0b11) (is 0b000) (formatted 2)
-    ∷ row (is 0b001) (is 1) (is 0b11) (above 0b000) (illegal Parameter)
-    ∷ row (is 0b011) (is 1) (is 0b11) (is 0b000) (illegal Parameter)
+    ∷ row (is 0b001) (is 1) (is 0b11) (above 0b000) (illegal ParameterInvalid)
+    ∷ row (is 0b011) (is 1) (is 0b11) (is 0b000) (illegal ParameterInvalid)
     ∷ row (is 0b011) (is 1) (is 0b11) (is 0b001) (formatted 3)
-    ∷ row (is 0b011) (is 1) (is 0b11) (above 0b001) (illegal Parameter)
+    ∷ row (is 0b011) (is 1) (is 0b11) (above 0b001) (illegal ParameterInvalid)
     -- "Reserved": "6 if .. SPT is neither 0, 1 nor 3"
-    ∷ row (is 0b010) (is 1) (only (0b10 ∷ 0b11 ∷ [])) any (illegal Field)
-    ∷ row (only (0b100 ∷ 0b101 ∷ 0b110 ∷ 0b111 ∷ [])) (is 1) (only (0b10 ∷ 0b11 ∷ [])) any (illegal Field)
+    ∷ row (is 0b010) (is 1) (only (0b10 ∷ 0b11 ∷ [])) any (illegal FieldInvalid)
+    ∷ row (only (0b100 ∷ 0b101 ∷ 0b110 ∷ 0b111 ∷ [])) (is 1) (only (0b10 ∷ 0b11 ∷ [])) any (illegal FieldInvalid)
     ∷ []
 
 -- the first row that all four meet; numbers within the ranges meet one
 abbrev pub look : List Row → ℕ → ℕ → ℕ → ℕ → Choice
-look [] s p f u = illegal Field
+look [] s p f u = illegal FieldInvalid
 look (r ∷ rs) s p f u =
     cond (meets (r .spt) s && (meets (r .protect) p && (meets (r .fmtpinfo) f && meets (r .usage) u))) (r .gives) (look rs s p f u)
 
@@ -77,12 +78,12 @@ abbrev pub ranges : ℕ → ℕ → ℕ → ℕ → Bool
 ranges s p f u = leb s 7 && (leb p 1 && (leb f 3 && leb u 7))
 
 unfoldable pub choiceOf : ℕ → ℕ → ℕ → ℕ → Choice
-choiceOf s p f u = cond (ranges s p f u) (look table9 s p f u) (illegal Field)
+choiceOf s p f u = cond (ranges s p f u) (look table9 s p f u) (illegal FieldInvalid)
 
 -- The paper's own sentences, which `proofs/Demands.antt` shows to choose the same.
 -- "type .. for usage .., else 12"
 abbrev pub byUsage : ℕ → ℕ → ℕ → Choice
-byUsage u wanted t = cond (eqb u wanted) (formatted t) (illegal Parameter)
+byUsage u wanted t = cond (eqb u wanted) (formatted t) (illegal ParameterInvalid)
 
 -- PROTECT is 1 and SPT is 0, 1 or 3
 abbrev pub supports : ℕ → ℕ → Bool
@@ -94,8 +95,8 @@ supports p s = not (eqb p 0) && oneOf (0 ∷ 1 ∷ 3 ∷ []) s
 unfoldable pub sentences : ℕ → ℕ → ℕ → ℕ → Choice
 sentences s p f u =
     cond (eqb f 0b00) (byUsage u 0 0)
-    (cond (eqb f 0b01) (illegal Field)
-    (cond (not (supports p s)) (illegal Field)
+    (cond (eqb f 0b01) (illegal FieldInvalid)
+    (cond (not (supports p s)) (illegal FieldInvalid)
     (cond (eqb f 0b10) (byUsage u 0 1)
-    (cond (eqb s 0) (illegal Field)
+    (cond (eqb s 0) (illegal FieldInvalid)
     (cond (eqb s 1) (byUsage u 0 2) (byUsage u 1 3))))))

@@ -10,10 +10,13 @@ pub struct Choice {
     pub kind: u64,
 }
 
-fn refused(a: Answer) -> Choice
-    ensures { λ r. ⌜ r ≡ illegal a ⌝ }
+fn illegal(reason: Reason) -> Choice
+    ensures { λ r. ⌜ r ≡ illegal reason ⌝ }
 {
-    Choice { answer: a, kind: 0 }
+    Choice {
+        answer: Answer::Refused(reason),
+        kind: 0,
+    }
 }
 
 // A type that one usage alone gives.
@@ -26,7 +29,7 @@ fn by_usage(usage: u64, wanted: u64, kind: u64) -> Choice
             kind: kind,
         };
     }
-    refused(Answer::Refused(Reason::ParameterInvalid))
+    illegal(Reason::ParameterInvalid)
 }
 
 fn supported(protect: u64, spt: u64) -> bool
@@ -72,16 +75,16 @@ fn by_sentences(spt: u64, protect: u64, fmtpinfo: u64, usage: u64) -> Choice
         return by_usage(usage, 0, 0);
     }
     if fmtpinfo == 1 {
-        return refused(Answer::Refused(Reason::FieldInvalid));
+        return illegal(Reason::FieldInvalid);
     }
     if !supported(protect, spt) {
-        return refused(Answer::Refused(Reason::FieldInvalid));
+        return illegal(Reason::FieldInvalid);
     }
     if fmtpinfo == 2 {
         return by_usage(usage, 0, 1);
     }
     if spt == 0 {
-        return refused(Answer::Refused(Reason::FieldInvalid));
+        return illegal(Reason::FieldInvalid);
     }
     if spt == 1 {
         return by_usage(usage, 0, 2);
@@ -96,5 +99,5 @@ pub fn choose(spt: u64, protect: u64, fmtpinfo: u64, usage: u64) -> Choice
     if in_range(spt, protect, fmtpinfo, usage) {
         return by_sentences(spt, protect, fmtpinfo, usage);
     }
-    refused(Answer::Refused(Reason::FieldInvalid))
+    illegal(Reason::FieldInvalid)
 }

@@ -7,7 +7,7 @@ use Prim.Native.Nat.{ℕ, zero, suc, _<_}
 use native.Mathlib.Omega.{arith}
 use lib.ListN.{length, getD}
 use denote.Ref.{now}
-use Rattle.guard.specs.Guards.{Filled}
+use Rattle.answer.specs.Outcome.{Outcome}
 use Rattle.guard.proofs.guard_by_division.Reads as guard-by-division-reads
 use Rattle.guard.proofs.table.Reads as table-reads
 use Rattle.guard.proofs.guard_through.Reads as guard-through-reads
@@ -38,4 +38,4 @@ pub guard-by-table : (κs : _) (a : _) (x y : _) (s t : _) → guard-by-table-re
 guard-by-table κs a x y s t p q = p ∙ sym q
 
 pub guards : (κs : _) (a : _) (x y : _) (s t : _) → guards-reads.Post κs a x s → guards-reads.Post κs a y t → (x ≡ y) × (now (s .1 .1 .0) ≡ now (t .1 .1 .0))
-guards κs a x y s t p q = (ap (λ (o : Filled). o .good) (p ∙ sym q), ap (λ (o : Filled). o .out) (p ∙ sym q))
+guards κs a x y s t p q = (ap (λ (o : Outcome (List ℕ)). o .answer) (p ∙ sym q), ap (λ (o : Outcome (List ℕ)). o .left) (p ∙ sym q))

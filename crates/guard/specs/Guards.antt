@@ -1,11 +1,15 @@
 -- The guards of a run of intervals, laid end to end.
 use Prim.Native.Nat.{ℕ, _*_, _/_, _%_}
-use mathlib.Core.Bool.{Bool, true, false, _&&_, cond}
+use mathlib.Core.Bool.{Bool, not, _&&_}
 use mathlib.Core.List.{List}
 use lib.Dec.{eqb, ltb}
 use lib.ListN.{length, take}
 use Rattle.words.specs.BigEndian.{bytes}
 use Rattle.words.specs.Runs.{runs}
+use Rattle.answer.specs.Answer.{refusedIf}
+use Rattle.answer.specs.Outcome.{Outcome, leaving}
+use Rattle.answer.specs.declared.Answer.{Answer}
+use Rattle.answer.specs.declared.Reason.the-variants as reasons
 use Rattle.guard.specs.Guard.{guard}
 
 -- the guard of the interval that stands first in the list, as two bytes
@@ -20,13 +24,9 @@ guardsOf size k s = runs (guardOfFirst size) (λ t. t) size k 0 s
 unfoldable pub fits : List ℕ → ℕ → List ℕ → Bool
 fits s size out = ltb 0 size && (eqb (length s % size) 0 && eqb (length out) (length s / size * 2))
 
--- what is answered, and what the lent bytes then hold
-pub record Filled : Type 0 where
-  pub good : Bool
-  pub out : List ℕ
+-- "4 | buffer length wrong"
+unfoldable pub guardsRule : List ℕ → ℕ → List ℕ → Answer
+guardsRule s size out = refusedIf (not (fits s size out)) reasons.BufferLengthWrong
 
-abbrev pub filled : Bool → List ℕ → Filled
-filled good out = record { good = good; out = out }
-
-unfoldable pub guards : List ℕ → ℕ → List ℕ → Filled
-guards s size out = cond (fits s size out) (filled true (guardsOf size (length s / size) s)) (filled false out)
+unfoldable pub guards : List ℕ → ℕ → List ℕ → Outcome (List ℕ)
+guards s size out = leaving (guardsRule s size out) out (guardsOf size (length s / size) s)

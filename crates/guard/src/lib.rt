@@ -3,8 +3,11 @@ ghost use mathlib.Core.Path.{_≡_};
 ghost use Prim.Native.Nat.{_+_, _*_, _<_};
 ghost use lib.ListN.{length};
 ghost use Rattle.guard.specs.Guard.{guard, divide, takeOff, terms};
-ghost use Rattle.guard.specs.Guards.{guards, guardsOf, filled};
+ghost use Rattle.answer.specs.Outcome.{outcome};
+ghost use Rattle.guard.specs.Guards.{guards, guardsOf};
 ghost use Rattle.guard.specs.Table.{Right, tableStep};
+use answer::Answer;
+use answer::Reason;
 
 // The remainder with one term more brought down, and the divisor taken off where it goes in.
 fn bring_down(r: u16, t: u16) -> u16
@@ -363,21 +366,21 @@ fn fill_guards(t: &[u16; 256], data: &[u8], size: usize, count: usize, out: &mut
 }
 
 // The guards of the intervals of `size` bytes that `data` is made of, two bytes each, big-endian, into `out`.
-// False, with `out` as it was, if `size` is 0, `data` is not a whole number of intervals, or `out` does not have two bytes for each.
-pub fn guards(data: &[u8], size: usize, out: &mut [u8]) -> bool
-    ensures { λ r. ⌜ filled r (now (out .exit)) ≡ guards (now («data» .entry)) size (now (out .entry)) ⌝ }
+// Refused with 4 if `size` is 0, `data` is not a whole number of intervals, or `out` does not have two bytes for each.
+pub fn guards(data: &[u8], size: usize, out: &mut [u8]) -> Answer
+    ensures { λ r. ⌜ outcome r (now (out .exit)) ≡ guards (now («data» .entry)) size (now (out .entry)) ⌝ }
 {
     if size == 0 {
-        return false;
+        return Answer::Refused(Reason::BufferLengthWrong);
     }
     if data.len() % size != 0 {
-        return false;
+        return Answer::Refused(Reason::BufferLengthWrong);
     }
     let count = data.len() / size;
     if out.len() != count * 2 {
-        return false;
+        return Answer::Refused(Reason::BufferLengthWrong);
     }
     let t = table();
     fill_guards(&t, data, size, count, out);
-    true
+    Answer::Good
 }

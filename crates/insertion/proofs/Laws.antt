@@ -11,7 +11,7 @@ use Rattle.words.proofs.Parts.{take-bytes, append-bytes}
 use Rattle.guard.specs.Guard.{guard}
 use Rattle.field.specs.Field.{fieldBytes, dataOf, fieldOf}
 use Rattle.field.proofs.Laws.{data-laid, field-laid, field-length, field-bytes}
-use Rattle.blocks.specs.Blocks.{stripped}
+use Rattle.blocks.specs.Blocks.{userData}
 use Rattle.blocks.proofs.Pieces.{runs-length, runs-bytes, runs-behind, runs-read, runs-lots}
 use Rattle.insertion.specs.declared.Marks.{Marks}
 use Rattle.insertion.specs.Insertion.{withField, later, storedBlock, storedBlocks}
@@ -74,18 +74,18 @@ module _ (size : ℕ) (m : Marks) (s r : List ℕ) (h : size ≤ length s) where
   unfolding withField
   interval-field-on = field-laid size (take size s) _ r (length-take-le size s h) (field-length _ _ _)
 
-pub block-read-on : (size n : ℕ) (m : Marks) (s r : List ℕ) → n * size ≤ length s → stripped size n (storedBlock size n m s ++ r) ≡ take (n * size) s
-unfolding stripped storedBlock
+pub block-read-on : (size n : ℕ) (m : Marks) (s r : List ℕ) → n * size ≤ length s → userData size n (storedBlock size n m s ++ r) ≡ take (n * size) s
+unfolding userData storedBlock
 block-read-on size n m s r h = runs-read (withField size) (later 1) size (take size) (size + 8) (interval-read-on size) (interval-length size) n m s r h
 
-pub block-read : (size n : ℕ) (m : Marks) (s : List ℕ) → n * size ≤ length s → stripped size n (storedBlock size n m s) ≡ take (n * size) s
+pub block-read : (size n : ℕ) (m : Marks) (s : List ℕ) → n * size ≤ length s → userData size n (storedBlock size n m s) ≡ take (n * size) s
 block-read size n m s h = rw append-nil at (block-read-on size n m s [] h)
 
-pub blocks-read-on : (size n k : ℕ) (m : Marks) (s r : List ℕ) → k * (n * size) ≤ length s → stripped size (k * n) (storedBlocks size n k m s ++ r) ≡ take (k * (n * size)) s
-unfolding stripped storedBlocks
+pub blocks-read-on : (size n k : ℕ) (m : Marks) (s r : List ℕ) → k * (n * size) ≤ length s → userData size (k * n) (storedBlocks size n k m s ++ r) ≡ take (k * (n * size)) s
+unfolding userData storedBlocks
 blocks-read-on size n k m s r h =
     runs-lots (λ (u : ℕ) (l : List ℕ). take size l) (size + 8) 0 n k (runs (storedBlock size n) (later n) (n * size) k m s ++ r)
-    ∙ runs-read (storedBlock size n) (later n) (n * size) (stripped size n) (n * (size + 8)) (block-read-on size n) (block-length size n) k m s r h
+    ∙ runs-read (storedBlock size n) (later n) (n * size) (userData size n) (n * (size + 8)) (block-read-on size n) (block-length size n) k m s r h
 
-pub blocks-read : (size n k : ℕ) (m : Marks) (s : List ℕ) → k * (n * size) ≤ length s → stripped size (k * n) (storedBlocks size n k m s) ≡ take (k * (n * size)) s
+pub blocks-read : (size n k : ℕ) (m : Marks) (s : List ℕ) → k * (n * size) ≤ length s → userData size (k * n) (storedBlocks size n k m s) ≡ take (k * (n * size)) s
 blocks-read size n k m s h = rw append-nil at (blocks-read-on size n k m s [] h)

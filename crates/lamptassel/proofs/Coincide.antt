@@ -22,16 +22,16 @@ pub format-choice : (κs : _) (a : _) (x y : _) (s t : _) → format-choice-read
 format-choice κs a x y s t p q = (p .answer ∙ sym (q .answer), p .kind ∙ sym (q .kind))
 
 pub fill : (κs : _) (a : _) (x y : _) (s t : _) → fill-reads.Post κs a x s → fill-reads.Post κs a y t → (x ≡ y) × (now (s .1 .1 .1 .1 .1 .1 .0) ≡ now (t .1 .1 .1 .1 .1 .1 .0))
-fill κs a x y s t p q = (p .answer ∙ sym (q .answer), p .segment ∙ sym (q .segment))
+fill κs a x y s t p q = (p .answer ∙ sym (q .answer), p .left ∙ sym (q .left))
 
 pub parity : (κs : _) (a : _) (x y : _) (s t : _) → parity-reads.Post κs a x s → parity-reads.Post κs a y t → (x ≡ y) × (now (s .1 .1 .1 .1 .1 .1 .1 .1 .0) ≡ now (t .1 .1 .1 .1 .1 .1 .1 .1 .0))
-parity κs a x y s t p q = (p .answer ∙ sym (q .answer), p .lent ∙ sym (q .lent))
+parity κs a x y s t p q = (p .answer ∙ sym (q .answer), p .left ∙ sym (q .left))
 
 pub rebuild : (κs : _) (a : _) (x y : _) (s t : _) → rebuild-reads.Post κs a x s → rebuild-reads.Post κs a y t → (x ≡ y) × (now (s .1 .1 .1 .1 .1 .1 .1 .1 .1 .0) ≡ now (t .1 .1 .1 .1 .1 .1 .1 .1 .1 .0))
-rebuild κs a x y s t p q = (p .answer ∙ sym (q .answer), p .lent ∙ sym (q .lent))
+rebuild κs a x y s t p q = (p .answer ∙ sym (q .answer), p .left ∙ sym (q .left))
 
 pub correct : (κs : _) (a : _) (x y : _) (s t : _) → correct-reads.Post κs a x s → correct-reads.Post κs a y t → (x ≡ y) × (now (s .1 .1 .1 .1 .1 .1 .1 .1 .0) ≡ now (t .1 .1 .1 .1 .1 .1 .1 .1 .0))
-correct κs a x y s t p q = (p .answer ∙ sym (q .answer), p .lent ∙ sym (q .lent))
+correct κs a x y s t p q = (p .answer ∙ sym (q .answer), p .left ∙ sym (q .left))
 
 pub list : (κs : _) (a : _) (x y : _) (s t : _) → list-reads.Post κs a x s → list-reads.Post κs a y t → (x ≡ y) × (now (s .1 .0) ≡ now (t .1 .0))
 list κs a x y s t p q = (p .count ∙ sym (q .count), p .text ∙ sym (q .text))
@@ -46,4 +46,4 @@ pub guard-by-division : (κs : _) (a : _) (x y : _) (s t : _) → guard-by-divis
 guard-by-division κs a x y s t p q = p ∙ sym q
 
 pub guards : (κs : _) (a : _) (x y : _) (s t : _) → guards-reads.Post κs a x s → guards-reads.Post κs a y t → (x ≡ y) × (now (s .1 .1 .0) ≡ now (t .1 .1 .0))
-guards κs a x y s t p q = (p .answer ∙ sym (q .answer), p .lent ∙ sym (q .lent))
+guards κs a x y s t p q = (p .answer ∙ sym (q .answer), p .left ∙ sym (q .left))

@@ -3,11 +3,10 @@ use Prim.Native.Nat.{ℕ}
 use mathlib.Core.List.{List}
 use mathlib.Core.Path.{_≡_}
 use Rattle.answer.specs.Answer.{numberOf, addressOf, placeOf}
+use Rattle.answer.specs.Outcome.{Outcome}
 use Rattle.segment.specs.declared.Description.{Description}
 use Rattle.execute.specs.Execute.{Outcome}
 use Rattle.format.specs.declared.Choice.{Choice}
-use Rattle.filling.specs.Fresh.{Filled}
-use Rattle.stripe.specs.Stripe.{Striped}
 
 -- "type P, block length B, exponent e, first address W, count N and the bit ATO", in this order
 abbrev pub described : ℕ → ℕ → ℕ → ℕ → ℕ → ℕ → Description
@@ -27,12 +26,7 @@ pub record Chosen (c : Choice) (r t : ℕ) : Type 0 where
   pub answer : r ≡ numberOf (c .answer)
   pub kind : t ≡ c .kind
 
--- the answer r to a filling, and the segment s
-pub record FillAnswered (f : Filled) (r : ℕ) (s : List ℕ) : Type 0 where
-  pub answer : r ≡ numberOf (f .answer)
-  pub segment : s ≡ f .segment
-
--- the answer r to a call on a stripe, and the lent buffer or parity l
-pub record StripeAnswered (x : Striped) (r : ℕ) (l : List ℕ) : Type 0 where
-  pub answer : r ≡ numberOf (x .answer)
-  pub lent : l ≡ x .lent
+-- the answer r to any other call on lent bytes, and what they then hold
+pub record Answered (o : Outcome (List ℕ)) (r : ℕ) (l : List ℕ) : Type 0 where
+  pub answer : r ≡ numberOf (o .answer)
+  pub left : l ≡ o .left

@@ -1,14 +1,14 @@
 // What a C server links. Each function takes numbers and byte slices, and answers every input.
 ghost use mathlib.Core.Path.{_≡_};
 ghost use Rattle.guard.specs.Guard.{guard};
+ghost use Rattle.guard.specs.Guards.{guards};
 ghost use Rattle.answer.specs.Answer.{senseNumbered};
 ghost use Rattle.execute.specs.Execute.{executed};
 ghost use Rattle.format.specs.Choice.{choiceOf};
-ghost use Rattle.filling.specs.Fresh.{filledOf};
-ghost use Rattle.stripe.specs.Stripe.{makeAnswered, rebuildAnswered, correctAnswered};
+ghost use Rattle.filling.specs.Fresh.{filled};
+ghost use Rattle.stripe.specs.Stripe.{made, rebuilt, corrected};
 ghost use Rattle.listing.specs.Listing.{Listed};
-ghost use Rattle.lamptassel.specs.Answers.{described, Executed, Chosen, FillAnswered, StripeAnswered};
-ghost use Rattle.lamptassel.specs.Guards.{GuardsAnswered};
+ghost use Rattle.lamptassel.specs.Answers.{described, Executed, Chosen, Answered};
 use segment::Description;
 
 fn described(kind: u64, block: u64, exponent: u64, first: u64, count: u64, ato: u64) -> Description
@@ -77,7 +77,7 @@ pub extern "C" fn lamptassel_fill(
     ato: u64,
     segment: &mut [u8],
 ) -> u64
-    ensures { λ r. ⌜ FillAnswered (filledOf (described kind block exponent first count ato) (now (segment .entry))) r (now (segment .exit)) ⌝ }
+    ensures { λ r. ⌜ Answered (filled (described kind block exponent first count ato) (now (segment .entry))) r (now (segment .exit)) ⌝ }
 {
     let d = described(kind, block, exponent, first, count, ato);
     answer::number(filling::fill(d, segment))
@@ -96,7 +96,7 @@ pub extern "C" fn lamptassel_parity(
     members: &[u8],
     out: &mut [u8],
 ) -> u64
-    ensures { λ r. ⌜ StripeAnswered (makeAnswered (described kind block exponent first count ato) k (now (members .entry)) (now (out .entry))) r (now (out .exit)) ⌝ }
+    ensures { λ r. ⌜ Answered (made (described kind block exponent first count ato) k (now (members .entry)) (now (out .entry))) r (now (out .exit)) ⌝ }
 {
     let d = described(kind, block, exponent, first, count, ato);
     answer::number(stripe::make(d, k, members, out))
@@ -116,7 +116,7 @@ pub extern "C" fn lamptassel_rebuild(
     parts: &[u8],
     out: &mut [u8],
 ) -> u64
-    ensures { λ r. ⌜ StripeAnswered (rebuildAnswered (described kind block exponent first count ato) k lost (now (parts .entry)) (now (out .entry))) r (now (out .exit)) ⌝ }
+    ensures { λ r. ⌜ Answered (rebuilt (described kind block exponent first count ato) k lost (now (parts .entry)) (now (out .entry))) r (now (out .exit)) ⌝ }
 {
     let d = described(kind, block, exponent, first, count, ato);
     answer::number(stripe::rebuild(d, k, lost, parts, out))
@@ -135,7 +135,7 @@ pub extern "C" fn lamptassel_correct(
     new: &[u8],
     parity: &mut [u8],
 ) -> u64
-    ensures { λ r. ⌜ StripeAnswered (correctAnswered (described kind block exponent first count ato) (now (old .entry)) (now (new .entry)) (now (parity .entry))) r (now (parity .exit)) ⌝ }
+    ensures { λ r. ⌜ Answered (corrected (described kind block exponent first count ato) (now (old .entry)) (now (new .entry)) (now (parity .entry))) r (now (parity .exit)) ⌝ }
 {
     let d = described(kind, block, exponent, first, count, ato);
     answer::number(stripe::correct(d, old, new, parity))
@@ -179,7 +179,7 @@ pub extern "C" fn lamptassel_guard_by_division(data: &[u8]) -> u16
 // `out` does not have exactly two bytes for each.
 #[no_mangle]
 pub extern "C" fn lamptassel_guards(data: &[u8], size: usize, out: &mut [u8]) -> u64
-    ensures { λ r. ⌜ GuardsAnswered (now («data» .entry)) size (now (out .entry)) r (now (out .exit)) ⌝ }
+    ensures { λ r. ⌜ Answered (guards (now («data» .entry)) size (now (out .entry))) r (now (out .exit)) ⌝ }
 {
-    if guard::guards(data, size, out) { 0 } else { 4 }
+    answer::number(guard::guards(data, size, out))
 }

@@ -6,9 +6,9 @@ use Rattle.words.specs.Xor.{xors}
 use Rattle.parity.specs.Parity.{xorParts, parityOf}
 
 -- what stands, with the exclusive or of the first n bytes of each of k parts that begin `long` bytes apart
-unfoldable pub strided : ℕ → ℕ → ℕ → List ℕ → List ℕ → List ℕ
-strided long n zero out s = out
-strided long n (suc k) out s = strided long n k (xors out (take n s)) (drop long s)
+unfoldable pub xorStretch : ℕ → ℕ → ℕ → List ℕ → List ℕ → List ℕ
+xorStretch long n zero out s = out
+xorStretch long n (suc k) out s = xorStretch long n k (xors out (take n s)) (drop long s)
 
 -- the exclusive or of m parts in one list and n parts in another
 unfoldable pub joined : ℕ → ℕ → List ℕ → ℕ → List ℕ → List ℕ

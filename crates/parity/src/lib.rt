@@ -4,7 +4,7 @@ ghost use Prim.Native.Nat.{_+_, _*_, _≤_, _<_};
 ghost use lib.ListN.{length, take, drop};
 ghost use Rattle.words.specs.Xor.{xors};
 ghost use Rattle.parity.specs.Parity.{rebuiltOf};
-ghost use Rattle.parity.specs.Stretch.{strided, joined};
+ghost use Rattle.parity.specs.Stretch.{xorStretch, joined};
 
 // Makes `d` the exclusive or of itself, `a` and `b`, which are as long.
 pub fn xor_two(d: &mut [u8], a: &[u8], b: &[u8])
@@ -22,7 +22,7 @@ pub fn xor_two(d: &mut [u8], a: &[u8], b: &[u8])
 // two at a time, so that `piece` is gone through half as often.
 fn xor_stretch(piece: &mut [u8], at: usize, parts: &[u8], long: usize, count: usize)
     requires { ⌜ (at + length (now piece) ≤ long) × (count * long ≡ length (now parts)) ⌝ }
-    ensures { λ _. ⌜ now (piece .exit) ≡ strided long (length (now (piece .entry))) count (now (piece .entry)) (drop at (now (parts .entry))) ⌝ }
+    ensures { λ _. ⌜ now (piece .exit) ≡ xorStretch long (length (now (piece .entry))) count (now (piece .entry)) (drop at (now (parts .entry))) ⌝ }
 {
     let mut left = count;
     let mut i: usize = 0;

@@ -3,7 +3,6 @@
 -- Assumes nothing.
 use mathlib.Core.Path.{_≡_, sym, ap, ap₂, _∙_}
 use mathlib.Core.Logic.{_↔_}
-use mathlib.Core.Bool.{Bool, true, false, not, _&&_, cond}
 use mathlib.Core.List.{List, _++_}
 use Prim.Native.Nat.{ℕ, zero, suc, _+_, _*_, _≤_, _<_}
 use native.Mathlib.Nat.{add-mul, mul-assoc}
@@ -19,20 +18,23 @@ use Rattle.words.proofs.Parts.{put-length, drop-bytes}
 use Rattle.words.proofs.Xor.{xors-drop, xors-length, xors-cancel}
 use Rattle.guard.specs.Guard.{guard}
 use Rattle.field.specs.Field.{dataOf, fieldOf, storedGuard}
+use Rattle.answer.specs.Outcome.{Outcome, outcome}
 use Rattle.answer.specs.declared.Answer.{Answer}
 use Rattle.answer.specs.declared.Answer.the-variants as answers
-use Rattle.answer.specs.declared.Reason.the-variants as reasons
+use Rattle.answer.proofs.Outcome.{keeps}
 use Rattle.segment.specs.declared.Description.{Description}
-use Rattle.segment.specs.Segment.{Segment, isSegment, intervalsOf, sizeOf, storedOf, lengthOf}
+use Rattle.segment.specs.Segment.{Segment, intervalsOf, sizeOf, storedOf, lengthOf}
+use Rattle.segment.specs.Places.{beginOf}
 use Rattle.segment.proofs.Laws.{stored-intervals}
+use Rattle.segment.proofs.Places.{interval-begins}
 use Rattle.parity.specs.Parity.{part, parityOf, rebuiltOf, correctedOf}
 use Rattle.parity.proofs.Sums.{by-side, member-part, parity-part, any-part, all-but-one, others-only, parityOf-length, rebuiltOf-length, ends, part-length, put-part, put-other}
-use Rattle.stripe.specs.Stripe.{Striped, striped, stripedOf, makeAnswered, rebuildAnswered, correctAnswered}
+use Rattle.stripe.specs.Stripe.{made, rebuilt, corrected}
 use Rattle.stripe.specs.Fit.{Making, Rebuilding, Correcting}
-use Rattle.stripe.specs.Error.{errorAt, memberError, beginOf, errorIn, xorOver}
+use Rattle.stripe.specs.Error.{errorAt, memberError, errorIn, xorOver}
 use Rattle.stripe.proofs.Ladder.{same}
 use Rattle.stripe.proofs.Fits.{not-zero, make-is, make-only, rebuild-is, rebuild-only, correct-is, correct-only}
-use Rattle.stripe.proofs.Errors.{error-xors, over-zero, over-one, of-parity}
+use Rattle.stripe.proofs.Errors.{error-xors, over-same, over-zero, over-one, of-parity}
 
 -- ---- guard errors
 
@@ -45,6 +47,17 @@ right-exactly size s = (
       ∙ ap (λ (x : ℕ). bitXor x (guard (dataOf size s))) e
       ∙ xor-zero-l (guard (dataOf size s)),
   λ e. ap (λ (x : ℕ). bitXor x (guard (dataOf size s))) e ∙ xor-self (guard (dataOf size s)),
+)
+
+-- an error that is the exclusive or of errors of which one alone may be other than 0
+alike : (k m : ℕ) (f : ℕ → ℕ) {e : ℕ} → m < k → ((j : ℕ) → j < k → (j ≡ m → ⊥) → f j ≡ 0) → e ≡ f m → e ≡ xorOver k f
+    → (e ≡ 0) ↔ ((j : ℕ) → j < k → f j ≡ 0)
+alike k m f among others one all = (
+  λ z j l.
+      by-side (eqb j m)
+      (λ t. ap f (eqb→eq j m t) ∙ sym one ∙ z)
+      (λ t. others j l (λ y. T-not (eqb j m) t (same j m y))),
+  λ none. all ∙ over-zero k f none,
 )
 
 module _ (long k size o : ℕ) (s : List ℕ) (bytes : Bytes s) (whole : length s ≡ k * long) where
@@ -68,13 +81,7 @@ module _ (long k size o : ℕ) (s : List ℕ) (bytes : Bytes s) (whole : length 
 
     -- so that the parity errs exactly if a member does
     pub errs-alike : (errorAt size (drop o (parityOf long k s)) ≡ 0) ↔ ((j : ℕ) → j < k → memberError long size o s j ≡ 0)
-    errs-alike = (
-      λ e j l.
-          by-side (eqb j m)
-          (λ t. rw (eqb→eq j m t) (sym one-errs ∙ e))
-          (λ t. others j l (λ z. T-not (eqb j m) t (same j m z))),
-      none-errs,
-    )
+    errs-alike = alike k m (memberError long size o s) among others one-errs parity-error
 
 -- ---- lost and rebuilt
 
@@ -114,30 +121,30 @@ there-and-back old new p eo en =
     let once : length (xors p old) ≡ length new = xors-length p old (sym eo) ∙ sym en in
     ap (λ (l : List ℕ). xors l old) (xors-cancel (xors p old) new once) ∙ xors-cancel p old (sym eo)
 
--- ---- exactly when a call is good, and what it then leaves: `striped answers.Good l` is the outcome of a call that is good and leaves l
+-- ---- exactly when a call is good, and what it then leaves: `outcome answers.Good l` is the outcome of a call that is good and leaves l
 
 -- a good outcome that a definition gives is what the definition leaves
-leaves : (x : Striped) (l new : List ℕ) → x ≡ striped answers.Good new → striped answers.Good l ≡ x → l ≡ new
-leaves x l new is e = ap (λ (y : Striped). y .lent) (e ∙ is)
+leaves : (x : Outcome (List ℕ)) (l new : List ℕ) → x ≡ outcome answers.Good new → outcome answers.Good l ≡ x → l ≡ new
+leaves x l new is e = ap (λ (y : Outcome (List ℕ)). y .left) (e ∙ is)
 
-answered : (x : Striped) (l : List ℕ) → striped answers.Good l ≡ x → x .answer ≡ answers.Good
-answered x l e = sym (ap (λ (y : Striped). y .answer) e)
+answered : (x : Outcome (List ℕ)) (l : List ℕ) → outcome answers.Good l ≡ x → x .answer ≡ answers.Good
+answered x l e = sym (ap (λ (y : Outcome (List ℕ)). y .answer) e)
 
 module _ (d : Description) (k : ℕ) (s out : List ℕ) where
-  pub make-good-exactly : (makeAnswered d k s out .answer ≡ answers.Good) ↔ Making d k s out
-  make-good-exactly = (make-only d k s out, λ m. ap (λ (y : Striped). y .answer) (make-is d k s out m))
+  pub make-good-exactly : (made d k s out .answer ≡ answers.Good) ↔ Making d k s out
+  make-good-exactly = (make-only d k s out, λ m. ap (λ (y : Outcome (List ℕ)). y .answer) (make-is d k s out m))
 
-  pub make-leaves : (l : List ℕ) → striped answers.Good l ≡ makeAnswered d k s out → (l ≡ parityOf (lengthOf d) k s) × (length l ≡ lengthOf d)
+  pub make-leaves : (l : List ℕ) → outcome answers.Good l ≡ made d k s out → (l ≡ parityOf (lengthOf d) k s) × (length l ≡ lengthOf d)
   make-leaves l e =
       let m = make-only d k s out (answered _ l e) in
       let is = leaves _ l _ (make-is d k s out m) e in
       (is, ap length is ∙ parityOf-length (lengthOf d) k s (omega (arith, m .whole)))
 
 module _ (d : Description) (k lost : ℕ) (s out : List ℕ) where
-  pub rebuild-good-exactly : (rebuildAnswered d k lost s out .answer ≡ answers.Good) ↔ Rebuilding d k lost s out
-  rebuild-good-exactly = (rebuild-only d k lost s out, λ m. ap (λ (y : Striped). y .answer) (rebuild-is d k lost s out m))
+  pub rebuild-good-exactly : (rebuilt d k lost s out .answer ≡ answers.Good) ↔ Rebuilding d k lost s out
+  rebuild-good-exactly = (rebuild-only d k lost s out, λ m. ap (λ (y : Outcome (List ℕ)). y .answer) (rebuild-is d k lost s out m))
 
-  pub rebuild-leaves : (l : List ℕ) → striped answers.Good l ≡ rebuildAnswered d k lost s out → (l ≡ rebuiltOf (lengthOf d) k lost s) × (length l ≡ lengthOf d)
+  pub rebuild-leaves : (l : List ℕ) → outcome answers.Good l ≡ rebuilt d k lost s out → (l ≡ rebuiltOf (lengthOf d) k lost s) × (length l ≡ lengthOf d)
   rebuild-leaves l e =
       let m = rebuild-only d k lost s out (answered _ l e) in
       let is = leaves _ l _ (rebuild-is d k lost s out m) e in
@@ -150,10 +157,10 @@ corrected-length old new parity long o n p =
     xors-length (xors parity old) new (once ∙ sym n) ∙ once
 
 module _ (d : Description) (old new parity : List ℕ) where
-  pub correct-good-exactly : (correctAnswered d old new parity .answer ≡ answers.Good) ↔ Correcting d old new parity
-  correct-good-exactly = (correct-only d old new parity, λ m. ap (λ (y : Striped). y .answer) (correct-is d old new parity m))
+  pub correct-good-exactly : (corrected d old new parity .answer ≡ answers.Good) ↔ Correcting d old new parity
+  correct-good-exactly = (correct-only d old new parity, λ m. ap (λ (y : Outcome (List ℕ)). y .answer) (correct-is d old new parity m))
 
-  pub correct-leaves : (l : List ℕ) → striped answers.Good l ≡ correctAnswered d old new parity → (l ≡ correctedOf old new parity) × (length l ≡ lengthOf d)
+  pub correct-leaves : (l : List ℕ) → outcome answers.Good l ≡ corrected d old new parity → (l ≡ correctedOf old new parity) × (length l ≡ lengthOf d)
   correct-leaves l e =
       let m = correct-only d old new parity (answered _ l e) in
       let is = leaves _ l _ (correct-is d old new parity m) e in
@@ -177,37 +184,43 @@ module _ (d : Description) (segment : Segment d) (typed : 1 ≤ d .kind) (j i : 
       omega (arith, begin-in-block, stored, ends (sizeOf d + 8) i (intervalsOf d) l, ends (storedOf d) j (d .count) h)
 
 -- ---- demand 3 for the calls: a good `make` of k members left `parity`
-module _ (d : Description) (k : ℕ) (s out parity : List ℕ) (made : striped answers.Good parity ≡ makeAnswered d k s out) where
+module _ (d : Description) (k : ℕ) (s out parity : List ℕ) (good : outcome answers.Good parity ≡ made d k s out) where
   making : Making d k s out
-  making = make-only d k s out (answered _ parity made)
+  making = make-only d k s out (answered _ parity good)
 
   is-parity : parity ≡ parityOf (lengthOf d) k s
-  is-parity = make-leaves d k s out parity made .0
+  is-parity = make-leaves d k s out parity good .0
 
   module _ (bytes : Bytes s) (j i : ℕ) where
+    begin : (l : List ℕ) → errorIn d j i l ≡ errorAt (sizeOf d) (drop (beginOf d j i) l)
+    begin l = ap (errorAt (sizeOf d)) (interval-begins d l j i)
+
     -- at each interval the parity's guard error is the exclusive or of the members' guard errors there, right or wrong
     pub made-error : errorIn d j i parity ≡ xorOver k (λ m. errorIn d j i (part (lengthOf d) m s))
-    made-error = rw is-parity (parity-error (lengthOf d) k (sizeOf d) (beginOf d j i) s bytes (making .whole))
+    made-error =
+        begin parity ∙ ap (λ (l : List ℕ). errorAt (sizeOf d) (drop (beginOf d j i) l)) is-parity
+        ∙ parity-error (lengthOf d) k (sizeOf d) (beginOf d j i) s bytes (making .whole)
+        ∙ over-same k _ _ (λ m. sym (begin (part (lengthOf d) m s)))
 
     module _ (m : ℕ) (among : m < k) (others : (n : ℕ) → n < k → (n ≡ m → ⊥) → errorIn d j i (part (lengthOf d) n s) ≡ 0) where
       -- where at most one member errs, the parity's error is that member's
       pub made-one-errs : errorIn d j i parity ≡ errorIn d j i (part (lengthOf d) m s)
-      made-one-errs = rw is-parity (one-errs (lengthOf d) k (sizeOf d) (beginOf d j i) s bytes (making .whole) m among others)
+      made-one-errs = made-error ∙ over-one k m (λ n. errorIn d j i (part (lengthOf d) n s)) among others
 
       -- so that the parity errs exactly if a member does
       pub made-errs-alike : (errorIn d j i parity ≡ 0) ↔ ((n : ℕ) → n < k → errorIn d j i (part (lengthOf d) n s) ≡ 0)
-      made-errs-alike = rw is-parity (errs-alike (lengthOf d) k (sizeOf d) (beginOf d j i) s bytes (making .whole) m among others)
+      made-errs-alike = alike k m (λ n. errorIn d j i (part (lengthOf d) n s)) among others made-one-errs made-error
 
   -- of parts that agree with the members and their parity in every part but the lost one, whose bytes are arbitrary, `rebuild` is good and leaves the
   -- lost part, byte for byte
   pub lost-comes-back : (lost : ℕ) (parts room : List ℕ) → lost ≤ k → length parts ≡ (k + 1) * lengthOf d → length room ≡ lengthOf d
       → ((j : ℕ) → j ≤ k → (j ≡ lost → ⊥) → part (lengthOf d) j parts ≡ part (lengthOf d) j (s ++ parity))
-      → rebuildAnswered d k lost parts room ≡ striped answers.Good (part (lengthOf d) lost (s ++ parity))
+      → rebuilt d k lost parts room ≡ outcome answers.Good (part (lengthOf d) lost (s ++ parity))
   lost-comes-back lost parts room among whole fits agree =
       let m = making in
       rebuild-is d k lost parts room
       (record { segment = m .segment; typed = m .typed; some = m .some; few = m .few; among = among; whole = whole; room = fits })
-      ∙ ap (striped answers.Good)
+      ∙ ap (outcome answers.Good)
       (lost-not-used (lengthOf d) k lost parts (s ++ parity) among agree
       ∙ lost-and-rebuilt (lengthOf d) k lost s (s ++ parity) (m .whole) among (ap (λ (l : List ℕ). s ++ l) is-parity))
 
@@ -220,13 +233,13 @@ module _ (d : Description) (k : ℕ) (s out parity : List ℕ) (made : striped a
 
   -- where member m's bytes become new ones, `correct` leaves of the parity what `make` makes afresh of the new members
   pub correct-makes-afresh : (m : ℕ) (old new room : List ℕ) → m < k → old ≡ part (lengthOf d) m s → length new ≡ lengthOf d → length room ≡ lengthOf d
-      → correctAnswered d old new parity ≡ makeAnswered d k (put (m * lengthOf d) new s) room
+      → corrected d old new parity ≡ made d k (put (m * lengthOf d) new s) room
   correct-makes-afresh m old new room among is size fits =
       let f = making in
       let old-whole : length old ≡ lengthOf d = ap length is ∙ part-length (lengthOf d) m k s among (f .whole) in
       correct-is d old new parity
-      (record { segment = f .segment; typed = f .typed; old-whole = old-whole; new-whole = size; room = make-leaves d k s out parity made .1 })
-      ∙ ap (striped answers.Good)
+      (record { segment = f .segment; typed = f .typed; old-whole = old-whole; new-whole = size; room = make-leaves d k s out parity good .1 })
+      ∙ ap (outcome answers.Good)
       (ap (correctedOf old new) is-parity ∙ corrected-is-fresh (lengthOf d) k m s old new (f .whole) among is size)
       ∙ sym
       (make-is d k (put (m * lengthOf d) new s) room
@@ -235,26 +248,15 @@ module _ (d : Description) (k : ℕ) (s out parity : List ℕ) (made : striped a
       put-whole : length (put (m * lengthOf d) new s) ≡ k * lengthOf d
       put-whole = put-length (m * lengthOf d) new s (rw (size, making .whole) (ends (lengthOf d) m k among)) ∙ making .whole
 
--- ---- any answer but 0 leaves every lent byte
+-- ---- "Any answer but 0 changes no lent byte"
+pub make-keeps : (d : Description) (k : ℕ) (s out : List ℕ) (a : Answer) (l : List ℕ) → outcome a l ≡ made d k s out → (a ≡ answers.Good → ⊥) → l ≡ out
+unfolding made
+make-keeps d k s out a l = keeps _ out _
 
-either : (b c : Bool) (old new : List ℕ) (a : Answer) (l : List ℕ)
-    → striped a l ≡ cond b (striped (answers.Refused reasons.DescriptionBad) old) (cond c (striped answers.Good new) (striped (answers.Refused reasons.StripeShapeBad) old)) → (a ≡ answers.Good → ⊥) → l ≡ old
-either true c old new a l e n = ap (λ (y : Striped). y .lent) e
-either false true old new a l e n = absurd (n (ap (λ (y : Striped). y .answer) e))
-either false false old new a l e n = ap (λ (y : Striped). y .lent) e
+pub rebuild-keeps : (d : Description) (k lost : ℕ) (s out : List ℕ) (a : Answer) (l : List ℕ) → outcome a l ≡ rebuilt d k lost s out → (a ≡ answers.Good → ⊥) → l ≡ out
+unfolding rebuilt
+rebuild-keeps d k lost s out a l = keeps _ out _
 
-keeps : (d : Description) (shaped : Bool) (old new : List ℕ) (a : Answer) (l : List ℕ) → striped a l ≡ stripedOf d shaped old new → (a ≡ answers.Good → ⊥) → l ≡ old
-unfolding stripedOf
-keeps d shaped old new a l e n = either (not (isSegment d)) (not (eqb (d .kind) 0) && shaped) old new a l e n
-
-pub make-keeps : (d : Description) (k : ℕ) (s out : List ℕ) (a : Answer) (l : List ℕ) → striped a l ≡ makeAnswered d k s out → (a ≡ answers.Good → ⊥) → l ≡ out
-unfolding makeAnswered
-make-keeps d k s out a l e n = keeps d _ out _ a l e n
-
-pub rebuild-keeps : (d : Description) (k lost : ℕ) (s out : List ℕ) (a : Answer) (l : List ℕ) → striped a l ≡ rebuildAnswered d k lost s out → (a ≡ answers.Good → ⊥) → l ≡ out
-unfolding rebuildAnswered
-rebuild-keeps d k lost s out a l e n = keeps d _ out _ a l e n
-
-pub correct-keeps : (d : Description) (old new parity : List ℕ) (a : Answer) (l : List ℕ) → striped a l ≡ correctAnswered d old new parity → (a ≡ answers.Good → ⊥) → l ≡ parity
-unfolding correctAnswered
-correct-keeps d old new parity a l e n = keeps d _ parity _ a l e n
+pub correct-keeps : (d : Description) (old new parity : List ℕ) (a : Answer) (l : List ℕ) → outcome a l ≡ corrected d old new parity → (a ≡ answers.Good → ⊥) → l ≡ parity
+unfolding corrected
+correct-keeps d old new parity a l = keeps _ parity _

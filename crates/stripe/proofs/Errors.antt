@@ -41,7 +41,7 @@ error-xors size a b h p q =
     ∙ xor-swap (storedGuard (fieldOf size a)) (storedGuard (fieldOf size b)) (guard (take size a)) (guard (take size b))
 
 -- ---- the exclusive or of a list of numbers
-over-same : (k : ℕ) (f g : ℕ → ℕ) → ((m : ℕ) → f m ≡ g m) → xorOver k f ≡ xorOver k g
+pub over-same : (k : ℕ) (f g : ℕ → ℕ) → ((m : ℕ) → f m ≡ g m) → xorOver k f ≡ xorOver k g
 unfolding xorOver
 over-same zero f g e = refl
 over-same (suc k) f g e = ap₂ bitXor (e 0) (over-same k (λ m. f (suc m)) (λ m. g (suc m)) (λ m. e (suc m)))

@@ -1,40 +1,37 @@
 -- The order of refusals: 1 where the numbers describe no segment, then 11 where a test of the shape fails.
 -- Assumes nothing.
 use mathlib.Core.Path.{_≡_, refl, sym, ap, _∙_}
-use mathlib.Core.Bool.{Bool, true, false, not, _&&_, cond}
-use mathlib.Core.List.{List}
+use mathlib.Core.Bool.{Bool, true, false, not, _&&_, cond, true≢false}
 use Prim.Native.Nat.{ℕ, _*_, _≤_}
 use native.Mathlib.Nat.{mul-le-mul}
-use native.Mathlib.Omega.{arith}
 use borrow.Author.Tests.{not-false}
 use lib.Dec.{T, T-not, not-T, eqb, leb, leb→le, le→leb, eqb→eq, eqb-refl}
-use Rattle.words.proofs.Choice.{and-true, and-left, and-right, chosen, not-chosen}
+use Rattle.words.proofs.Choice.{and-true, and-left, and-right}
+use Rattle.answer.specs.Answer.{isGood, refusedIf}
+use Rattle.answer.specs.Outcome.{outcome, leaving}
 use Rattle.answer.specs.declared.Answer.{Answer}
 use Rattle.answer.specs.declared.Answer.the-variants as answers
 use Rattle.answer.specs.declared.Reason.the-variants as reasons
+use Rattle.answer.proofs.Ladder.{both-good, not-refused, met, unmet, rule-good, rule-refuses}
+use Rattle.answer.proofs.Outcome.{hands-on}
 use Rattle.segment.specs.declared.Description.{Description}
-use Rattle.segment.specs.Segment.{Segment, isSegment, lengthOf}
-use Rattle.segment.proofs.Laws.{segment-facts, is-segment, length-most}
-use Rattle.stripe.specs.Stripe.{Striped, striped, stripedOf, members}
-
--- ---- what the test of the description says
-fits : (d : Description) (f : Bool) → not f ≡ false → f ≡ isSegment d → T (isSegment d)
-fits d f n e = rw (← e, not-false f n) tt
-
-pub is-one : (d : Description) (f : Bool) → not f ≡ false → f ≡ isSegment d → Segment d
-is-one d f n e = segment-facts d (fits d f n e)
+use Rattle.segment.specs.Segment.{Segment, lengthOf}
+use Rattle.segment.specs.Rules.{descriptionRule}
+use Rattle.segment.proofs.Laws.{length-most}
+use Rattle.segment.proofs.Rules.{rule-described, described-rule}
+use Rattle.stripe.specs.Stripe.{stripeRules, inRange}
 
 -- up to seventeen parts have a length that a number of 64 bits holds
 pub all-most : (d : Description) (k long : ℕ) → Segment d → long ≡ lengthOf d → k ≤ 17 → k * long ≤ 17 * (65536 * 4160)
 all-most d k long s e h = rw e (mul-le-mul h (length-most d s))
 
-pub members-facts : (k : ℕ) → T (members k) → (1 ≤ k) × (k ≤ 16)
-unfolding members
-members-facts k t = (leb→le 1 k (and-left (leb 1 k) _ t), leb→le k 16 (and-right (leb 1 k) _ t))
+pub range-facts : (k : ℕ) → T (inRange k) → (1 ≤ k) × (k ≤ 16)
+unfolding inRange
+range-facts k t = (leb→le 1 k (and-left (leb 1 k) _ t), leb→le k 16 (and-right (leb 1 k) _ t))
 
-pub members-true : (k : ℕ) → 1 ≤ k → k ≤ 16 → T (members k)
-unfolding members
-members-true k l h = and-true (leb 1 k) (leb k 16) (le→leb 1 k l) (le→leb k 16 h)
+pub range-true : (k : ℕ) → 1 ≤ k → k ≤ 16 → T (inRange k)
+unfolding inRange
+range-true k l h = and-true (leb 1 k) (leb k 16) (le→leb 1 k l) (le→leb k 16 h)
 
 -- what is as long as k parts, and what is as long as one
 pub parts-long : (k : ℕ) {n long one : ℕ} → n ≡ k * long → one ≡ long → k * one ≡ n
@@ -43,48 +40,46 @@ parts-long k e h = ap (λ (l : ℕ). k * l) h ∙ sym e
 pub same : (a b : ℕ) → a ≡ b → T (eqb a b)
 same a b e = rw e (eqb-refl b)
 
--- ---- the answers
-module _ (d : Description) (shaped : Bool) (old new : List ℕ) (f : Bool) (e : f ≡ isSegment d) where
-  pub not-one : not f ≡ true → striped (answers.Refused reasons.DescriptionBad) old ≡ stripedOf d shaped old new
-  unfolding stripedOf
-  not-one n = sym (chosen (not (isSegment d)) (striped (answers.Refused reasons.DescriptionBad) old) _ (rw (← e, n) tt))
+-- ---- the rules
+module _ (d : Description) (shaped : Bool) where
+  right : T (not (eqb (d .kind) 0) && shaped) → (d .kind ≡ 0 → ⊥) × T shaped
+  right t = (
+    λ z. T-not (eqb (d .kind) 0) (and-left (not (eqb (d .kind) 0)) shaped t) (same (d .kind) 0 z),
+    and-right (not (eqb (d .kind) 0)) shaped t,
+  )
 
-  pub no-shape : not f ≡ false → ((d .kind ≡ 0 → ⊥) → T shaped → ⊥) → striped (answers.Refused reasons.StripeShapeBad) old ≡ stripedOf d shaped old new
-  unfolding stripedOf
-  no-shape n h =
-      sym
-      (not-chosen (not (isSegment d)) (striped (answers.Refused reasons.DescriptionBad) old) _ (λ t. T-not (isSegment d) t (fits d f n e))
-      ∙ not-chosen (not (eqb (d .kind) 0) && shaped) (striped answers.Good new) _
-      (λ t. h (λ z. T-not (eqb (d .kind) 0) (and-left (not (eqb (d .kind) 0)) shaped t) (same (d .kind) 0 z)) (and-right (not (eqb (d .kind) 0)) shaped t)))
+  pub rules-good : Segment d → (d .kind ≡ 0 → ⊥) → T shaped → stripeRules d shaped ≡ answers.Good
+  unfolding stripeRules
+  rules-good s k t =
+      rw (described-rule d s)
+      (met (not (eqb (d .kind) 0) && shaped) _ (and-true (not (eqb (d .kind) 0)) shaped (not-T (eqb (d .kind) 0) (λ z. k (eqb→eq (d .kind) 0 z))) t))
 
-  pub shape : (l : List ℕ) → not f ≡ false → (d .kind ≡ 0 → ⊥) → T shaped → l ≡ new → striped answers.Good l ≡ stripedOf d shaped old new
-  unfolding stripedOf
-  shape l n k t m =
-      ap (striped answers.Good) m
-      ∙ sym
-      (not-chosen (not (isSegment d)) (striped (answers.Refused reasons.DescriptionBad) old) _ (λ t. T-not (isSegment d) t (fits d f n e))
-      ∙ chosen (not (eqb (d .kind) 0) && shaped) (striped answers.Good new) _ (and-true (not (eqb (d .kind) 0)) shaped (not-T (eqb (d .kind) 0) (λ z. k (eqb→eq (d .kind) 0 z))) t))
+  pub rules-bad : Segment d → ((d .kind ≡ 0 → ⊥) → T shaped → ⊥) → stripeRules d shaped ≡ answers.Refused reasons.StripeShapeBad
+  unfolding stripeRules
+  rules-bad s h = rw (described-rule d s) (unmet (not (eqb (d .kind) 0) && shaped) _ (λ t. h (right t .0) (right t .1)))
 
--- ---- good exactly where there is a segment with fields and the shape is right
-no-description : (a : Answer) → a ≡ (answers.Refused reasons.DescriptionBad) → a ≡ answers.Good → ⊥
-no-description a n g = let z : _≡_ {A = ℕ} 0 1 = cc in omega arith
+  pub rules-facts : isGood (stripeRules d shaped) ≡ true → Segment d × ((d .kind ≡ 0 → ⊥) × T shaped)
+  unfolding stripeRules
+  rules-facts g =
+      let two = both-good (descriptionRule d) _ g in
+      (rule-described d (two .0), right (rw (not-false (not (eqb (d .kind) 0) && shaped) (not-refused _ _ (two .1))) tt))
 
-no-stripe : (a : Answer) → a ≡ (answers.Refused reasons.StripeShapeBad) → a ≡ answers.Good → ⊥
-no-stripe a n g = let z : _≡_ {A = ℕ} 0 1 = cc in omega arith
+-- where a part of the shape is refused, so is the whole
+refused-more : (g plain shaped rest : Bool) (a : Answer) → isGood (cond g (refusedIf (not (not plain && shaped)) reasons.StripeShapeBad) a) ≡ false
+    → cond g (refusedIf (not (not plain && shaped)) reasons.StripeShapeBad) a ≡ cond g (refusedIf (not (not plain && (shaped && rest))) reasons.StripeShapeBad) a
+refused-more false plain shaped rest a w = refl
+refused-more true true shaped rest a w = refl
+refused-more true false false rest a w = refl
+refused-more true false true rest a w = absurd (true≢false w)
 
-good-only-if : (b c d : Bool) (old new : List ℕ) (x : Striped)
-    → x ≡ cond (not b) (striped (answers.Refused reasons.DescriptionBad) old) (cond (not c && d) (striped answers.Good new) (striped (answers.Refused reasons.StripeShapeBad) old)) → x .answer ≡ answers.Good → T b × (T (not c) × T d)
-good-only-if false c d old new x e g = absurd (no-description (x .answer) (ap (λ (y : Striped). y .answer) e) g)
-good-only-if true true d old new x e g = absurd (no-stripe (x .answer) (ap (λ (y : Striped). y .answer) e) g)
-good-only-if true false false old new x e g = absurd (no-stripe (x .answer) (ap (λ (y : Striped). y .answer) e) g)
-good-only-if true false true old new x e g = (tt, (tt, tt))
+rules-more : (d : Description) (shaped rest : Bool) → isGood (stripeRules d shaped) ≡ false → stripeRules d shaped ≡ stripeRules d (shaped && rest)
+unfolding stripeRules
+rules-more d shaped rest w = refused-more (isGood (descriptionRule d)) (eqb (d .kind) 0) shaped rest (descriptionRule d) w
 
-module _ (d : Description) (shaped : Bool) (old new : List ℕ) where
-  pub good-only : stripedOf d shaped old new .answer ≡ answers.Good → Segment d × ((d .kind ≡ 0 → ⊥) × T shaped)
-  unfolding stripedOf
-  good-only g =
-      let t = good-only-if (isSegment d) (eqb (d .kind) 0) shaped old new _ refl g in
-      (segment-facts d (t .0), (λ z. T-not (eqb (d .kind) 0) (t .1 .0) (same (d .kind) 0 z), t .1 .1))
+-- `a` is what `stripe_rules` answered, `g` whether that is good
+module _ (d : Description) (shaped : Bool) (a : Answer) (g : Bool) (e : a ≡ stripeRules d shaped) (t : g ≡ isGood a) where
+  pub passed : not g ≡ false → Segment d × ((d .kind ≡ 0 → ⊥) × T shaped)
+  passed n = rules-facts d shaped (rule-good a (stripeRules d shaped) g e t n)
 
-  pub good-is : Segment d → (d .kind ≡ 0 → ⊥) → T shaped → stripedOf d shaped old new ≡ striped answers.Good new
-  good-is s k t = sym (shape d shaped old new true (sym (is-segment d s)) new refl k t refl)
+  pub stopped : {L : Type 0} (rest : Bool) (old new : L) → not g ≡ true → outcome a old ≡ leaving (stripeRules d (shaped && rest)) old new
+  stopped rest old new n = hands-on (stripeRules d (shaped && rest)) old new a g (e ∙ rules-more d shaped rest (rule-refuses a (stripeRules d shaped) g e t n)) t n

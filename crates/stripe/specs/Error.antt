@@ -1,12 +1,13 @@
 -- An interval's guard error is its stored guard exclusive-ored with the guard of its data: 0 where the guard is right.
-use Prim.Native.Nat.{ℕ, zero, suc, _+_, _*_}
+use Prim.Native.Nat.{ℕ, zero, suc}
 use mathlib.Core.List.{List}
 use lib.Bits.{bitXor}
 use lib.ListN.{drop}
 use Rattle.guard.specs.Guard.{guard}
 use Rattle.field.specs.Field.{dataOf, fieldOf, storedGuard}
 use Rattle.segment.specs.declared.Description.{Description}
-use Rattle.segment.specs.Segment.{intervalsOf, sizeOf}
+use Rattle.segment.specs.Segment.{sizeOf}
+use Rattle.segment.specs.Places.{intervalAt}
 use Rattle.parity.specs.Parity.{part}
 
 -- of the interval of `size` data bytes that stands first in the list
@@ -17,14 +18,9 @@ errorAt size s = bitXor (storedGuard (fieldOf size s)) (guard (dataOf size s))
 abbrev pub memberError : ℕ → ℕ → ℕ → List ℕ → ℕ → ℕ
 memberError long size o s m = errorAt size (drop o (part long m s))
 
--- "A block has n = 2^e intervals"; "For types 1 to 3 each is followed by eight bytes"; "N blocks end to end": where interval i of block j
--- begins in a segment's bytes
-unfoldable pub beginOf : Description → ℕ → ℕ → ℕ
-beginOf d j i = (j * intervalsOf d + i) * (sizeOf d + 8)
-
 -- of interval i of block j of a segment
 abbrev pub errorIn : Description → ℕ → ℕ → List ℕ → ℕ
-errorIn d j i s = errorAt (sizeOf d) (drop (beginOf d j i) s)
+errorIn d j i s = errorAt (sizeOf d) (intervalAt d s j i)
 
 -- the exclusive or of f 0 to f (k - 1)
 unfoldable pub xorOver : ℕ → (ℕ → ℕ) → ℕ

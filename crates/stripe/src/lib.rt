@@ -1,25 +1,48 @@
 // Stripes of up to sixteen members: making parity, rebuilding a lost part, correcting parity, and their refusals.
 ghost use mathlib.Core.Path.{_≡_};
-ghost use Rattle.stripe.specs.Stripe.{striped, makeAnswered, rebuildAnswered, correctAnswered};
+ghost use Rattle.answer.specs.Outcome.{outcome};
+ghost use Rattle.stripe.specs.Stripe.{stripeRules, inRange, made, rebuilt, corrected};
 use answer::Answer;
 use answer::Reason;
 use segment::Description;
 
-// Makes the parity of `k` members in `out`.
-pub fn make(d: Description, k: u64, members: &[u8], out: &mut [u8]) -> Answer
-    ensures { λ r. ⌜ striped r (now (out .exit)) ≡ makeAnswered d k (now (members .entry)) (now (out .entry)) ⌝ }
+// Whether a stripe can have `k` members.
+fn in_range(k: u64) -> bool
+    ensures { λ r. ⌜ r ≡ inRange k ⌝ }
 {
-    if !segment::fit(d) {
-        return Answer::Refused(Reason::DescriptionBad);
+    if k < 1 {
+        return false;
+    }
+    if 16 < k {
+        return false;
+    }
+    true
+}
+
+// Refusal 1, then 11 for type 0 and where the shape is not right.
+fn stripe_rules(d: Description, shaped: bool) -> Answer
+    ensures { λ r. ⌜ r ≡ stripeRules d shaped ⌝ }
+{
+    let a = segment::description_rule(d);
+    if !answer::good(a) {
+        return a;
     }
     if d.kind == 0 {
         return Answer::Refused(Reason::StripeShapeBad);
     }
-    if k < 1 {
+    if !shaped {
         return Answer::Refused(Reason::StripeShapeBad);
     }
-    if 16 < k {
-        return Answer::Refused(Reason::StripeShapeBad);
+    Answer::Good
+}
+
+// Makes the parity of `k` members in `out`.
+pub fn make(d: Description, k: u64, members: &[u8], out: &mut [u8]) -> Answer
+    ensures { λ r. ⌜ outcome r (now (out .exit)) ≡ made d k (now (members .entry)) (now (out .entry)) ⌝ }
+{
+    let a = stripe_rules(d, in_range(k));
+    if !answer::good(a) {
+        return a;
     }
     let count = k as usize;
     let long = segment::length(d);
@@ -35,19 +58,11 @@ pub fn make(d: Description, k: u64, members: &[u8], out: &mut [u8]) -> Answer
 
 // Rebuilds part `lost` of `k` members and their parity in `out`.
 pub fn rebuild(d: Description, k: u64, lost: u64, parts: &[u8], out: &mut [u8]) -> Answer
-    ensures { λ r. ⌜ striped r (now (out .exit)) ≡ rebuildAnswered d k lost (now (parts .entry)) (now (out .entry)) ⌝ }
+    ensures { λ r. ⌜ outcome r (now (out .exit)) ≡ rebuilt d k lost (now (parts .entry)) (now (out .entry)) ⌝ }
 {
-    if !segment::fit(d) {
-        return Answer::Refused(Reason::DescriptionBad);
-    }
-    if d.kind == 0 {
-        return Answer::Refused(Reason::StripeShapeBad);
-    }
-    if k < 1 {
-        return Answer::Refused(Reason::StripeShapeBad);
-    }
-    if 16 < k {
-        return Answer::Refused(Reason::StripeShapeBad);
+    let a = stripe_rules(d, in_range(k));
+    if !answer::good(a) {
+        return a;
     }
     if k < lost {
         return Answer::Refused(Reason::StripeShapeBad);
@@ -66,13 +81,11 @@ pub fn rebuild(d: Description, k: u64, lost: u64, parts: &[u8], out: &mut [u8]) 
 
 // Corrects `parity` where one member's bytes `old` became `new`.
 pub fn correct(d: Description, old: &[u8], new: &[u8], parity: &mut [u8]) -> Answer
-    ensures { λ r. ⌜ striped r (now (parity .exit)) ≡ correctAnswered d (now (old .entry)) (now (new .entry)) (now (parity .entry)) ⌝ }
+    ensures { λ r. ⌜ outcome r (now (parity .exit)) ≡ corrected d (now (old .entry)) (now (new .entry)) (now (parity .entry)) ⌝ }
 {
-    if !segment::fit(d) {
-        return Answer::Refused(Reason::DescriptionBad);
-    }
-    if d.kind == 0 {
-        return Answer::Refused(Reason::StripeShapeBad);
+    let a = stripe_rules(d, true);
+    if !answer::good(a) {
+        return a;
     }
     let long = segment::length(d);
     if old.len() != long {

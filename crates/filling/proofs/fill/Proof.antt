@@ -1,7 +1,6 @@
--- `filling::fill`: each refusal denies a fact, and a segment that is filled is fresh, with fields or without.
+-- `filling::fill`: the rules first; a segment that is filled is fresh, with fields or without.
 -- Assumes nothing.
-use mathlib.Core.Path.{_≡_, sym, ap, _∙_}
-use mathlib.Core.Bool.{false}
+use mathlib.Core.Path.{_≡_, _∙_}
 use mathlib.Core.List.{List}
 use Prim.Native.Nat.{ℕ, _+_, _*_, _≤_}
 use native.Mathlib.Nat.{mul-assoc, mul-le-mul}
@@ -9,26 +8,16 @@ use native.Mathlib.Omega.{arith}
 use borrow.Author.Tests.{eq-eqb, ne-eqb}
 use lib.ListN.{length, replicate}
 use Rattle.answer.specs.declared.Answer.the-variants as answers
-use Rattle.answer.specs.declared.Reason.the-variants as reasons
+use Rattle.answer.specs.Outcome.{outcome}
+use Rattle.answer.proofs.Outcome.{hands-on, leaves-new}
 use Rattle.segment.specs.declared.Description.{Description}
-use Rattle.segment.specs.Segment.{isSegment, Segment, intervalsOf, sizeOf, lengthOf}
-use Rattle.segment.proofs.Laws.{described, undescribed, is-segment, sizes, stored-intervals}
-use Rattle.filling.specs.Fresh.{filled, filledOf, fresh, freshIntervals}
+use Rattle.segment.specs.Segment.{Segment, intervalsOf, sizeOf, lengthOf}
+use Rattle.segment.proofs.Laws.{sizes, stored-intervals}
+use Rattle.segment.proofs.Rules.{fitting}
+use Rattle.filling.specs.Fresh.{filled, fresh, freshIntervals}
 use borrow.Author.Needs.{needs}
 use Rattle.filling.proofs.fill.Statement.{statement}
 use Rattle.filling.proofs.fill.Tie as tie
-
-refused : (d : Description) (s : List ℕ) → isSegment d ≡ false → filled (answers.Refused reasons.DescriptionBad) s ≡ filledOf d s
-unfolding filledOf
-refused d s n = rw n
-
-unfit : (d : Description) (s : List ℕ) → Segment d → (length s ≡ lengthOf d → ⊥) → filled (answers.Refused reasons.SegmentLengthWrong) s ≡ filledOf d s
-unfolding filledOf
-unfit d s f n = rw (is-segment d f, ne-eqb (length s) (lengthOf d) n)
-
-good : (d : Description) (s new : List ℕ) → Segment d → length s ≡ lengthOf d → new ≡ fresh d → filled answers.Good new ≡ filledOf d s
-unfolding filledOf
-good d s new f e n = rw (is-segment d f, eq-eqb (length s) (lengthOf d) e) (ap (filled answers.Good) n)
 
 plain : (d : Description) (long : ℕ) (new : List ℕ) → long ≡ lengthOf d → d .kind ≡ 0 → new ≡ replicate long 0 → new ≡ fresh d
 unfolding fresh
@@ -45,50 +34,56 @@ whole d long size n f k e g l = rw (e, g, l, stored-intervals d f k) (mul-assoc 
 few : (d : Description) (n : ℕ) → Segment d → n ≡ intervalsOf d → d .count * n ≤ 524288
 few d n f e = rw e (mul-le-mul {n₂ = 65536} {m₂ = 8} (f .count) (sizes d f .intervals-most))
 
-returns : tie.Need-returns
-returns c = refused _ _ (undescribed _ _ (c .before .fit .ensures) (c .if1 .taken))
+abbrev start : tie.Else1 → tie.Start
+start p = p .before .before .before .before
 
-length-requires : tie.Need-length-requires
-length-requires c κs = (described _ _ (c .before .fit .ensures) (c .if1 .left))
+fits : (p : tie.Else1) → Segment (start p .args .d) × (length (start p .args .segment .now) ≡ lengthOf (start p .args .d))
+fits p = fitting _ _ _ (p .before .good2 .ensures) (p .if1 .left) _ (p .before .before .segment-rules .ensures)
+
+good : (p : tie.Else1) {new : List ℕ} → new ≡ fresh (start p .args .d) → outcome answers.Good new ≡ filled (start p .args .d) (start p .args .segment .now)
+unfolding filled
+good p = leaves-new _ _ _ _ _ (p .before .before .segment-rules .ensures) (p .before .good2 .ensures) (p .if1 .left)
+
+returns : tie.Need-returns
+unfolding filled
+returns c = hands-on _ _ _ _ _ (c .before .before .segment-rules .ensures) (c .before .good2 .ensures) (c .if1 .taken)
 
 returns-2 : tie.Need-returns-2
-returns-2 c = unfit _ _ (described _ _ (c .before .before .before .fit .ensures) (c .before .before .if1 .left)) (λ e. c .if2 .taken (e ∙ sym (c .before .length .ensures)))
-
-returns-3 : tie.Need-returns-3
-returns-3 c = good _ _ _ (described _ _ (c .before .before .before .before .before .before .before .before .before .fit .ensures) (c .before .before .before .before .before .before .before .before .if1 .left)) (c .before .before .before .before .before .before .if2 .left ∙ c .before .before .before .before .before .before .before .length .ensures) (plain _ _ _ (c .before .before .before .before .before .before .if2 .left ∙ c .before .before .before .before .before .before .before .length .ensures) (c .before .before .before .before .if3 .taken) (c .before .before .fill-with .ensures))
+returns-2 c =
+    let typed = c .before .before .before .before in
+    good (typed .before .before) (plain _ _ _ (fits (typed .before .before) .1) (typed .if2 .taken) (c .before .before .fill-with .ensures))
 
 size-requires : tie.Need-size-requires
-size-requires c κs = (described _ _ (c .before .before .before .before .before .fit .ensures) (c .before .before .before .before .if1 .left))
+size-requires c κs = fits (c .before .before) .0
 
 intervals-requires : tie.Need-intervals-requires
-intervals-requires c κs = (described _ _ (c .before .before .before .before .before .before .fit .ensures) (c .before .before .before .before .before .if1 .left))
+intervals-requires c κs = fits (c .before .before .before) .0
 
 mul-count : tie.Need-mul-count
-mul-count c = omega (arith, few _ _ (described _ _ (c .before .before .before .before .before .before .before .fit .ensures) (c .before .before .before .before .before .before .if1 .left)) (c .intervals .ensures))
+mul-count c = omega (arith, few _ _ (fits (c .before .before .before .before) .0) (c .intervals .ensures))
 
 fill-intervals-requires : tie.Need-fill-intervals-requires
-fill-intervals-requires c κs = whole _ _ _ _ (described _ _ (c .before .before .before .before .before .before .before .before .fit .ensures) (c .before .before .before .before .before .before .before .if1 .left)) (c .before .before .before .if3 .left) (c .before .before .size .ensures) (c .before .intervals .ensures) (c .before .before .before .before .before .if2 .left ∙ c .before .before .before .before .before .before .length .ensures)
+fill-intervals-requires c κs =
+    let typed = c .before .before .before in
+    let f = fits (typed .before .before) in
+    whole _ _ _ _ (f .0) (typed .if2 .left) (c .before .before .size .ensures) (c .before .intervals .ensures) (f .1)
 
-returns-4 : tie.Need-returns-4
-returns-4 c =
+returns-3 : tie.Need-returns-3
+returns-3 c =
     let typed = c .before .before .before .before .before .before in
-    let one = typed .before .before .before .before in
-    good _ _ _ (described _ _ (one .before .fit .ensures) (one .if1 .left)) (typed .before .before .if2 .left ∙ typed .before .before .before .length .ensures)
-    (fields _ _ _ _ (typed .if3 .left) (c .before .before .before .before .before .size .ensures) (c .before .before .before .before .intervals .ensures) (c .before .before .fill-intervals .ensures))
+    good (typed .before .before) (fields _ _ _ _ (typed .if2 .left) (c .before .before .before .before .before .size .ensures) (c .before .before .before .before .intervals .ensures) (c .before .before .fill-intervals .ensures))
 
 pub fill-spec : {M : Type 1} → statement M
 fill-spec =
     tie.close
     (tie.spec
-    (λ c κs. search needs)
+    (λ c κs. search needs) (λ c κs. search needs)
     returns
-    length-requires
-    returns-2
     (λ c κs. search needs) (λ c. search needs)
-    returns-3
+    returns-2
     size-requires
     intervals-requires
     mul-count
     fill-intervals-requires
     (λ c. search needs)
-    returns-4)
+    returns-3)

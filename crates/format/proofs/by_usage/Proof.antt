@@ -10,7 +10,7 @@ returns : tie.Need-returns
 returns c = rw (eq-eqb _ _ (c .if1 .taken))
 
 returns-2 : tie.Need-returns-2
-returns-2 c = c .refused .ensures ∙ rw (ne-eqb _ _ (c .before .if1 .left))
+returns-2 c = c .illegal .ensures ∙ rw (ne-eqb _ _ (c .before .if1 .left))
 
 pub by-usage-spec : {M : Type 1} → statement M
 by-usage-spec = tie.close (tie.spec returns (λ c κs. search needs) returns-2)

@@ -10,7 +10,7 @@ returns : tie.Need-returns
 returns c = c .by-sentences .ensures ∙ sym (within-ranges _ _ _ _ (sym (c .before .before .in-range .ensures) ∙ c .before .if1 .taken))
 
 returns-2 : tie.Need-returns-2
-returns-2 c = c .refused .ensures ∙ sym (outside-ranges _ _ _ _ (sym (c .before .before .in-range .ensures) ∙ c .before .if1 .left))
+returns-2 c = c .illegal .ensures ∙ sym (outside-ranges _ _ _ _ (sym (c .before .before .in-range .ensures) ∙ c .before .if1 .left))
 
 pub choose-spec : {M : Type 1} → statement M
 choose-spec =

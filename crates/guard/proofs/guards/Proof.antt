@@ -1,15 +1,19 @@
 -- `guard::guards`: each refusal denies one of the three facts of a fit, and the last return has them all.
 -- Assumes nothing.
 use mathlib.Core.Path.{_≡_, sym, ap, _∙_}
-use mathlib.Core.Bool.{true, false}
 use mathlib.Core.List.{List}
 use Prim.Native.Nat.{ℕ, _+_, _*_, _/_, _%_, _<_}
 use native.Mathlib.Nat.{div-add-mod', div-le-self, add-zero}
 use native.Mathlib.Omega.{arith}
 use lib.Dec.{T, ltb, eqb, ltb→lt, eqb→eq, lt→ltb, eqb-refl}
 use lib.ListN.{length}
-use Rattle.words.proofs.Choice.{and-true, and-left, and-right, chosen, not-chosen}
-use Rattle.guard.specs.Guards.{guards, guardsOf, fits, filled}
+use Rattle.words.proofs.Choice.{and-true, and-left, and-right}
+use Rattle.answer.specs.Outcome.{outcome}
+use Rattle.answer.specs.declared.Answer.the-variants as answers
+use Rattle.answer.specs.declared.Reason.the-variants as reasons
+use Rattle.answer.proofs.Ladder.{met, unmet}
+use Rattle.answer.proofs.Outcome.{refuses, leaves}
+use Rattle.guard.specs.Guards.{guards, guardsRule, guardsOf, fits}
 use borrow.Author.Needs.{needs}
 use Rattle.guard.proofs.guards.Statement.{statement}
 use Rattle.guard.proofs.guards.Tie as tie
@@ -36,13 +40,14 @@ fit s size out f =
     let room : T (eqb (length out) (length s / size * 2)) = rw (f .room) (eqb-refl (length s / size * 2)) in
     and-true (ltb 0 size) _ (lt→ltb 0 size (f .some)) (and-true (eqb (length s % size) 0) _ whole room)
 
-refused : (s : List ℕ) (size : ℕ) (out : List ℕ) → (Fit s size out → ⊥) → filled false out ≡ guards s size out
-unfolding guards
-refused s size out n = sym (not-chosen (fits s size out) (filled true (guardsOf size (length s / size) s)) _ (λ t. n (fit-facts s size out t)))
+module _ (s : List ℕ) (size : ℕ) (out : List ℕ) where
+  refused : (Fit s size out → ⊥) → outcome (answers.Refused reasons.BufferLengthWrong) out ≡ guards s size out
+  unfolding guards guardsRule
+  refused n = refuses _ _ _ (unmet (fits s size out) _ (λ t. n (fit-facts s size out t)))
 
-good : (s : List ℕ) (size : ℕ) (out new : List ℕ) → Fit s size out → new ≡ guardsOf size (length s / size) s → filled true new ≡ guards s size out
-unfolding guards
-good s size out new f e = ap (filled true) e ∙ sym (chosen (fits s size out) _ (filled false out) (fit s size out f))
+  good : (new : List ℕ) → Fit s size out → new ≡ guardsOf size (length s / size) s → outcome answers.Good new ≡ guards s size out
+  unfolding guards guardsRule
+  good new f e = leaves _ _ _ (met (fits s size out) _ (fit s size out f)) e
 
 all : (n size : ℕ) → n % size ≡ 0 → n / size * size ≡ n
 all n size e = sym (add-zero (n / size * size)) ∙ ap (λ (r : ℕ). n / size * size + r) (sym e) ∙ div-add-mod' n size

@@ -10,7 +10,7 @@ use lib.Seq.{drop-drop}
 use Rattle.words.specs.Xor.{xors}
 use Rattle.words.proofs.Xor.{xors-length}
 use Rattle.words.proofs.Runs.{peel-within, peel-rest}
-use Rattle.parity.specs.Stretch.{strided}
+use Rattle.parity.specs.Stretch.{xorStretch}
 use borrow.Author.Needs.{needs}
 use Rattle.parity.proofs.xor_stretch.Statement.{statement}
 use Rattle.parity.proofs.xor_stretch.Tie as tie
@@ -19,7 +19,7 @@ record Going (piece₀ parts : List ℕ) (at long count : ℕ) (piece : List ℕ
   kept : length piece ≡ length piece₀
   near : at + length piece₀ ≤ long
   from : i + left * long ≡ length parts
-  made : strided long (length piece₀) left piece (drop (i + at) parts) ≡ strided long (length piece₀) count piece₀ (drop at parts)
+  made : xorStretch long (length piece₀) left piece (drop (i + at) parts) ≡ xorStretch long (length piece₀) count piece₀ (drop at parts)
 
 within : {piece₀ parts piece : List ℕ} {at long count left i : ℕ} → Going piece₀ parts at long count piece left i → 0 < left → i + long ≤ length parts
 within {long = long} {i = i} g h = peel-within _ i long _ h (g .from)
@@ -30,17 +30,17 @@ within-two {long = long} {left = left} {i = i} g h = peel-within (left - 1) (i +
 reach : {piece₀ parts piece : List ℕ} {at long count left i : ℕ} → Going piece₀ parts at long count piece left i → 0 < left → i + at + length piece ≤ length parts
 reach g h = omega (arith, within g h, g .kept, g .near)
 
-next-made : (long n left i at : ℕ) (piece parts whole : List ℕ) → 0 < left → strided long n left piece (drop (i + at) parts) ≡ whole
-    → strided long n (left - 1) (xors piece (take n (drop (i + at) parts))) (drop (i + long + at) parts) ≡ whole
-unfolding strided
+next-made : (long n left i at : ℕ) (piece parts whole : List ℕ) → 0 < left → xorStretch long n left piece (drop (i + at) parts) ≡ whole
+    → xorStretch long n (left - 1) (xors piece (take n (drop (i + at) parts))) (drop (i + long + at) parts) ≡ whole
+unfolding xorStretch
 next-made long n zero i at piece parts whole h e = absurd (omega arith)
 next-made long n (suc left) i at piece parts whole h e =
     let down : suc left - 1 ≡ left = omega arith in
     let on : i + long + at ≡ i + at + long = omega arith in
     rw (down, on, ← drop-drop long (i + at) parts) e
 
-end-made : (long n left : ℕ) (piece s whole : List ℕ) → left ≤ 0 → strided long n left piece s ≡ whole → piece ≡ whole
-unfolding strided
+end-made : (long n left : ℕ) (piece s whole : List ℕ) → left ≤ 0 → xorStretch long n left piece s ≡ whole → piece ≡ whole
+unfolding xorStretch
 end-made long n zero piece s whole h e = e
 end-made long n (suc left) piece s whole h e = absurd (omega arith)
 
@@ -68,7 +68,7 @@ turn-two {piece₀} {parts} {piece} {new} {at} {long} {count} {left} {i} g h w =
     rw down (turn (turn g (omega arith) refl) (omega arith) (rw (one, two, over) at w))
 
 last : {piece₀ parts piece new : List ℕ} {at long count left i : ℕ} → Going piece₀ parts at long count piece left i → left ≤ 1 → (left ≡ 0 → ⊥)
-    → new ≡ xors piece (take (i + at + length piece - (i + at)) (drop (i + at) parts)) → new ≡ strided long (length piece₀) count piece₀ (drop at parts)
+    → new ≡ xors piece (take (i + at + length piece - (i + at)) (drop (i + at) parts)) → new ≡ xorStretch long (length piece₀) count piece₀ (drop at parts)
 last {piece₀} {piece = piece} {at = at} {left = left} {i = i} g h n w =
     let one : i + at + length piece - (i + at) ≡ length piece₀ = omega (arith, g .kept) in
     end-made _ _ (left - 1) _ _ _ (omega arith) (turn g (omega arith) (rw one at w) .made)

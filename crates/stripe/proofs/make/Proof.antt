@@ -1,63 +1,68 @@
--- `stripe::make`: each refusal denies a fact of a fit, and the last return has them all.
+-- `stripe::make`: the rules first; then each refusal denies a length, and the last return has both.
 -- Assumes nothing.
-use mathlib.Core.Path.{refl}
+use mathlib.Core.Path.{_≡_, refl, ap, _∙_}
 use native.Mathlib.Nat.{zero-mul}
 use native.Mathlib.Omega.{arith}
-use Rattle.stripe.proofs.Ladder.{is-one, all-most, parts-long}
-use Rattle.stripe.proofs.Fits.{not-zero, make-bad, make-refused, make-unfit, make-good}
+use lib.Dec.{T}
+use Rattle.segment.specs.Segment.{Segment}
+use Rattle.stripe.specs.Stripe.{stripeRules, inRange}
+use Rattle.stripe.proofs.Ladder.{all-most, parts-long, range-facts, passed}
+use Rattle.stripe.proofs.Fits.{make-stopped, make-unfit, make-good}
 use borrow.Author.Needs.{needs}
 use Rattle.stripe.proofs.make.Statement.{statement}
 use Rattle.stripe.proofs.make.Tie as tie
 
+abbrev start : tie.After-stripe-rules → tie.Start
+start p = p .before .before .before .before
+
+answered : (p : tie.After-stripe-rules) → p .stripe-rules .result ≡ stripeRules (start p .args .d) (inRange (start p .args .k))
+answered p = p .stripe-rules .ensures ∙ ap (stripeRules (start p .args .d)) (p .before .in-range .ensures)
+
 returns : tie.Need-returns
-returns c = make-bad _ _ _ _ _ (c .before .fit .ensures) (c .if1 .taken)
-
-returns-2 : tie.Need-returns-2
-returns-2 c = make-refused _ _ _ _ _ (c .before .before .before .fit .ensures) (c .before .before .if1 .left) (λ m. not-zero _ (m .typed) (c .if2 .taken))
-
-returns-3 : tie.Need-returns-3
-returns-3 c = make-refused _ _ _ _ _ (c .before .before .before .before .fit .ensures) (c .before .before .before .if1 .left) (λ m. omega (arith, m .some))
-
-returns-4 : tie.Need-returns-4
-returns-4 c = make-refused _ _ _ _ _ (c .before .before .before .before .before .fit .ensures) (c .before .before .before .before .if1 .left) (λ m. omega (arith, m .few))
+returns c = make-stopped _ _ _ _ _ _ (answered (c .before .before)) (c .before .good2 .ensures) (c .if1 .taken)
 
 length-requires : tie.Need-length-requires
-length-requires c κs = is-one _ _ (c .before .before .before .before .if1 .left) (c .before .before .before .before .before .fit .ensures)
+length-requires c κs = passed _ _ _ _ (answered (c .before .before)) (c .before .good2 .ensures) (c .if1 .left) .0
 
-mul-if5 : tie.Need-mul-if5
-mul-if5 c = omega (arith, all-most _ (c .before .before .before .before .before .before .before .before .before .args .k) _ (is-one _ _ (c .before .before .before .before .before .if1 .left) (c .before .before .before .before .before .before .fit .ensures)) (c .length .ensures) (omega arith))
+mul-if2 : tie.Need-mul-if2
+mul-if2 c =
+    let rules = c .before in
+    let p = passed _ _ _ _ (answered (rules .before .before)) (rules .before .good2 .ensures) (rules .if1 .left) in
+    let few = range-facts (start (rules .before .before) .args .k) (p .1 .1) .1 in
+    omega (arith, all-most _ (start (rules .before .before) .args .k) _ (p .0) (c .length .ensures) (omega (arith, few)))
 
-returns-5 : tie.Need-returns-5
-returns-5 c = make-unfit _ _ _ _ _ (c .before .before .before .before .before .before .before .fit .ensures) _ (c .before .length .ensures) (c .before .before .before .before .before .before .if1 .left) (λ whole room. c .if5 .taken whole)
+returns-2 : tie.Need-returns-2
+returns-2 c =
+    let rules = c .before .before in
+    make-unfit _ _ _ _ _ _ (answered (rules .before .before)) (rules .before .good2 .ensures) _ (c .before .length .ensures) (rules .if1 .left) (λ whole room. c .if2 .taken whole)
 
-returns-6 : tie.Need-returns-6
-returns-6 c = make-unfit _ _ _ _ _ (c .before .before .before .before .before .before .before .before .fit .ensures) _ (c .before .before .length .ensures) (c .before .before .before .before .before .before .before .if1 .left) (λ whole room. c .if6 .taken room)
+returns-3 : tie.Need-returns-3
+returns-3 c =
+    let rules = c .before .before .before in
+    make-unfit _ _ _ _ _ _ (answered (rules .before .before)) (rules .before .good2 .ensures) _ (c .before .before .length .ensures) (rules .if1 .left) (λ whole room. c .if3 .taken room)
 
 join-requires : tie.Need-join-requires
 join-requires c κs =
     let tests = c .before .before in
-    (parts-long _ (tests .before .if5 .left) (tests .if6 .left), zero-mul _)
+    (parts-long _ (tests .before .if2 .left) (tests .if3 .left), zero-mul _)
 
-returns-7 : tie.Need-returns-7
-returns-7 c =
+returns-4 : tie.Need-returns-4
+returns-4 c =
     let tests = c .before .before .before .before .before in
-    make-good _ _ _ _ _ (tests .before .before .before .before .before .before .before .before .fit .ensures) _ (tests .before .before .length .ensures) (tests .before .before .before .before .before .before .before .if1 .left) _ (tests .before .before .before .before .before .if2 .left) (tests .before .before .before .before .if3 .left) (tests .before .before .before .if4 .left) (tests .before .if5 .left) (tests .if6 .left)
-    (c .before .before .join .ensures)
+    let rules = tests .before .before .before in
+    make-good _ _ _ _ _ _ (answered (rules .before .before)) (rules .before .good2 .ensures) _ (tests .before .before .length .ensures) (rules .if1 .left) _ (tests .before .if2 .left) (tests .if3 .left) (c .before .before .join .ensures)
 
 pub make-spec : {M : Type 1} → statement M
 make-spec =
     tie.close
     (tie.spec
-    (λ c κs. search needs)
+    (λ c κs. search needs) (λ c κs. search needs) (λ c κs. search needs)
     returns
+    length-requires
+    mul-if2
     returns-2
     returns-3
-    returns-4
-    length-requires
-    mul-if5
-    returns-5
-    returns-6
     (λ c. refl)
     join-requires
     (λ c. search needs)
-    returns-7)
+    returns-4)

@@ -1,67 +1,80 @@
--- `stripe::rebuild`: each refusal denies a fact of a fit, and the last return has them all.
+-- `stripe::rebuild`: the rules first; then each refusal denies a fact of a fit, and the last return has them all.
 -- Assumes nothing.
-use mathlib.Core.Path.{sym}
+use mathlib.Core.Path.{_≡_, sym, ap, _∙_}
 use Prim.Native.Nat.{_+_}
 use native.Mathlib.Omega.{arith}
-use Rattle.stripe.proofs.Ladder.{is-one, all-most, parts-long}
-use Rattle.stripe.proofs.Fits.{not-zero, rebuild-bad, rebuild-refused, rebuild-unfit, rebuild-good}
+use Rattle.stripe.specs.Stripe.{stripeRules, inRange}
+use Rattle.stripe.proofs.Ladder.{all-most, parts-long, range-facts, passed}
+use Rattle.stripe.proofs.Fits.{rebuild-stopped, rebuild-refused, rebuild-unfit, rebuild-good}
 use borrow.Author.Needs.{needs}
 use Rattle.stripe.proofs.rebuild.Statement.{statement}
 use Rattle.stripe.proofs.rebuild.Tie as tie
 
+abbrev start : tie.After-stripe-rules → tie.Start
+start p = p .before .before .before .before
+
+answered : (p : tie.After-stripe-rules) → p .stripe-rules .result ≡ stripeRules (start p .args .d) (inRange (start p .args .k))
+answered p = p .stripe-rules .ensures ∙ ap (stripeRules (start p .args .d)) (p .before .in-range .ensures)
+
 returns : tie.Need-returns
-returns c = rebuild-bad _ _ _ _ _ _ (c .before .fit .ensures) (c .if1 .taken)
+returns c = rebuild-stopped _ _ _ _ _ _ _ (answered (c .before .before)) (c .before .good2 .ensures) (c .if1 .taken)
 
 returns-2 : tie.Need-returns-2
-returns-2 c = rebuild-refused _ _ _ _ _ _ (c .before .before .before .fit .ensures) (c .before .before .if1 .left) (λ m. not-zero _ (m .typed) (c .if2 .taken))
-
-returns-3 : tie.Need-returns-3
-returns-3 c = rebuild-refused _ _ _ _ _ _ (c .before .before .before .before .fit .ensures) (c .before .before .before .if1 .left) (λ m. omega (arith, m .some))
-
-returns-4 : tie.Need-returns-4
-returns-4 c = rebuild-refused _ _ _ _ _ _ (c .before .before .before .before .before .fit .ensures) (c .before .before .before .before .if1 .left) (λ m. omega (arith, m .few))
-
-returns-5 : tie.Need-returns-5
-returns-5 c = rebuild-refused _ _ _ _ _ _ (c .before .before .before .before .before .before .fit .ensures) (c .before .before .before .before .before .if1 .left) (λ m. omega (arith, m .among))
+returns-2 c =
+    let rules = c .before in
+    rebuild-refused _ _ _ _ _ _ _ (answered (rules .before .before)) (rules .before .good2 .ensures) (rules .if1 .left) (λ m. omega (arith, m .among))
 
 length-requires : tie.Need-length-requires
-length-requires c κs = is-one _ _ (c .before .before .before .before .before .if1 .left) (c .before .before .before .before .before .before .fit .ensures)
+length-requires c κs = let rules = c .before in passed _ _ _ _ (answered (rules .before .before)) (rules .before .good2 .ensures) (rules .if1 .left) .0
 
-mul-if6 : tie.Need-mul-if6
-mul-if6 c = omega (arith, all-most _ (c .before .before .before .before .before .before .before .before .before .before .args .k + 1) _ (is-one _ _ (c .before .before .before .before .before .before .if1 .left) (c .before .before .before .before .before .before .before .fit .ensures)) (c .length .ensures) (omega arith))
+mul-if3 : tie.Need-mul-if3
+mul-if3 c =
+    let rules = c .before .before in
+    let p = passed _ _ _ _ (answered (rules .before .before)) (rules .before .good2 .ensures) (rules .if1 .left) in
+    let few = range-facts (start (rules .before .before) .args .k) (p .1 .1) .1 in
+    omega (arith, all-most _ (start (rules .before .before) .args .k + 1) _ (p .0) (c .length .ensures) (omega (arith, few)))
 
-returns-6 : tie.Need-returns-6
-returns-6 c = rebuild-unfit _ _ _ _ _ _ (c .before .before .before .before .before .before .before .before .fit .ensures) _ (c .before .length .ensures) (c .before .before .before .before .before .before .before .if1 .left) (λ whole room. c .if6 .taken whole)
+add-if3 : tie.Need-add-if3
+add-if3 c =
+    let rules = c .before .before in
+    let p = passed _ _ _ _ (answered (rules .before .before)) (rules .before .good2 .ensures) (rules .if1 .left) in
+    omega (arith, range-facts (start (rules .before .before) .args .k) (p .1 .1) .1)
 
-returns-7 : tie.Need-returns-7
-returns-7 c = rebuild-unfit _ _ _ _ _ _ (c .before .before .before .before .before .before .before .before .before .fit .ensures) _ (c .before .before .length .ensures) (c .before .before .before .before .before .before .before .before .if1 .left) (λ whole room. c .if7 .taken room)
+returns-3 : tie.Need-returns-3
+returns-3 c =
+    let rules = c .before .before .before in
+    rebuild-unfit _ _ _ _ _ _ _ (answered (rules .before .before)) (rules .before .good2 .ensures) (rules .if1 .left) _ (c .before .length .ensures) (λ whole room. c .if3 .taken whole)
+
+returns-4 : tie.Need-returns-4
+returns-4 c =
+    let rules = c .before .before .before .before in
+    rebuild-unfit _ _ _ _ _ _ _ (answered (rules .before .before)) (rules .before .good2 .ensures) (rules .if1 .left) _ (c .before .before .length .ensures) (λ whole room. c .if4 .taken room)
 
 restore-requires : tie.Need-restore-requires
 restore-requires c κs =
     let tests = c .before in
-    (tests .before .before .before .if5 .left, sym (parts-long _ (tests .before .if6 .left) (tests .if7 .left)))
+    (tests .before .before .before .if2 .left, sym (parts-long _ (tests .before .if3 .left) (tests .if4 .left)))
 
-returns-8 : tie.Need-returns-8
-returns-8 c =
+returns-5 : tie.Need-returns-5
+returns-5 c =
     let tests = c .before .before .before .before in
-    rebuild-good _ _ _ _ _ _ (tests .before .before .before .before .before .before .before .before .before .fit .ensures) _ (tests .before .before .length .ensures) (tests .before .before .before .before .before .before .before .before .if1 .left) _ (tests .before .before .before .before .before .before .if2 .left) (tests .before .before .before .before .before .if3 .left) (tests .before .before .before .before .if4 .left) (tests .before .before .before .if5 .left) (tests .before .if6 .left) (tests .if7 .left)
+    let lost = tests .before .before .before in
+    let rules = lost .before in
+    rebuild-good _ _ _ _ _ _ _ (answered (rules .before .before)) (rules .before .good2 .ensures) (rules .if1 .left) _ (tests .before .before .length .ensures) _ (lost .if2 .left) (tests .before .if3 .left) (tests .if4 .left)
     (c .before .before .restore .ensures)
 
 pub rebuild-spec : {M : Type 1} → statement M
 rebuild-spec =
     tie.close
     (tie.spec
-    (λ c κs. search needs)
+    (λ c κs. search needs) (λ c κs. search needs) (λ c κs. search needs)
     returns
     returns-2
+    length-requires
+    add-if3
+    mul-if3
     returns-3
     returns-4
-    returns-5
-    length-requires
-    (λ c. search needs)
-    mul-if6
-    returns-6
-    returns-7
     restore-requires
     (λ c. search needs)
-    returns-8)
+    returns-5)

@@ -1,4 +1,4 @@
--- `blocks::strip`: the user data of one interval after the other is put in its place.
+-- `blocks::take_user_data`: the user data of one interval after the other is put in its place.
 -- Assumes nothing.
 use mathlib.Core.Path.{refl, _∙_}
 use mathlib.Core.List.{List}
@@ -8,26 +8,26 @@ use native.Mathlib.Omega.{arith}
 use lib.ListN.{length, take}
 use borrow.Author.Needs.{needs}
 use Rattle.words.specs.Parts.{put}
-use Rattle.blocks.specs.Blocks.{stripped}
+use Rattle.blocks.specs.Blocks.{userData}
 use Rattle.blocks.proofs.Filling.{Filling, within, room, turn, done, begin}
 use Rattle.words.proofs.Parts.{part-at}
 use Rattle.blocks.proofs.Places.{put-all}
-use Rattle.blocks.proofs.Laws.{stripped-length}
-use Rattle.blocks.proofs.strip.Statement.{statement}
-use Rattle.blocks.proofs.strip.Tie as tie
+use Rattle.blocks.proofs.Laws.{user-data-length}
+use Rattle.blocks.proofs.take_user_data.Statement.{statement}
+use Rattle.blocks.proofs.take_user_data.Tie as tie
 
 abbrev Inv-loop : tie.InvT-loop
 Inv-loop d₀ s size count left₀ i₀ a₀ d left i a =
-    Filling (λ (u : ℕ) (l : List ℕ). take size l) (λ u. u) (size + 8) size (length d₀) s d₀ (put 0 (stripped size count s) d₀) left i a 0 d
+    Filling (λ (u : ℕ) (l : List ℕ). take size l) (λ u. u) (size + 8) size (length d₀) s d₀ (put 0 (userData size count s) d₀) left i a 0 d
 
 abbrev μ-loop : tie.MeasureT-loop
 μ-loop d₀ s size count left₀ i₀ a₀ d left i a = left
 
 loop-holds : tie.Need-loop-holds Inv-loop μ-loop
-unfolding stripped
+unfolding userData
 loop-holds c =
     let start = c .before .before in
-    begin _ _ _ _ 0 _ _ 0 _ _ _ (start .pre .0) (rw zero-add (start .pre .1)) (le-refl _) refl (stripped-length _ _ _ (le-of-eq (start .pre .0)))
+    begin _ _ _ _ 0 _ _ 0 _ _ _ (start .pre .0) (rw zero-add (start .pre .1)) (le-refl _) refl (user-data-length _ _ _ (le-of-eq (start .pre .0)))
 
 add-m : tie.Need-add-m Inv-loop μ-loop
 add-m c = omega (arith, within (c .before .loop .inv) (c .loop-test .taken), c .before .before .before .before .good)
@@ -55,10 +55,10 @@ loop-again c =
 returns : tie.Need-returns Inv-loop μ-loop
 returns c =
     let start = c .before .before .before .before in
-    done (c .before .loop .inv) (c .loop-test .left) ∙ put-all _ _ (stripped-length _ _ _ (le-of-eq (start .pre .0)) ∙ start .pre .1)
+    done (c .before .loop .inv) (c .loop-test .left) ∙ put-all _ _ (user-data-length _ _ _ (le-of-eq (start .pre .0)) ∙ start .pre .1)
 
-pub strip-spec : {M : Type 1} → statement M
-strip-spec =
+pub take-user-data-spec : {M : Type 1} → statement M
+take-user-data-spec =
     tie.close
     (tie.spec
     Inv-loop
