@@ -1,20 +1,23 @@
 -- The laws of a record: its frame as a test and as facts, and which refusal comes first.
 -- Assumes nothing.
-use mathlib.Core.Path.{_≡_, refl, sym, ap, _∙_}
-use mathlib.Core.Bool.{Bool, true, false, not, cond}
+use mathlib.Core.Path.{_≡_, refl, sym, _∙_}
+use mathlib.Core.Bool.{Bool, true, false, not}
 use mathlib.Core.List.{List}
 use Prim.Native.Nat.{ℕ, _+_, _-_}
-use borrow.Author.Tests.{le-ltb, eq-eqb, ne-eqb, ltb-false, eqb-true, not-false}
+use borrow.Author.Tests.{le-ltb, eq-eqb, ltb-false, eqb-true, not-false}
 use lib.Dec.{eqb, ltb}
 use lib.ListN.{length, getD, length-drop}
 use Rattle.words.specs.BigEndian.{numberAt}
-use Rattle.words.proofs.Choice.{never, or-none}
-use Rattle.answer.specs.Answer.{isGood}
+use Rattle.words.proofs.Choice.{or-none}
+use Rattle.answer.specs.Answer.{isGood, refusedIf}
+use Rattle.answer.specs.declared.Answer.{Answer}
 use Rattle.answer.specs.declared.Answer.the-variants as answers
 use Rattle.answer.specs.declared.Reason.the-variants as reasons
+use Rattle.answer.proofs.Ladder.{both-good, not-refused}
 use Rattle.segment.specs.declared.Description.{Description}
-use Rattle.segment.specs.Segment.{isSegment, Segment, lengthOf}
-use Rattle.segment.proofs.Laws.{segment-facts, is-segment}
+use Rattle.segment.specs.Segment.{Segment, lengthOf}
+use Rattle.segment.specs.Rules.{segmentRules}
+use Rattle.segment.proofs.Rules.{rules-segment}
 use Rattle.records.specs.Record.{frameBad, Framed, describedBy, segmentIn, recordAnswer}
 
 -- ---- the frame
@@ -58,29 +61,16 @@ segment-length input = length-drop 19 input
 
 -- ---- the refusals, in order
 module _ (input : List ℕ) {b : Bool} (e : b ≡ frameBad input) where
-  pub record-frame : b ≡ true → (answers.Refused reasons.ListingRecordBad) ≡ recordAnswer input
+  pub record-frame : b ≡ true → answers.Refused reasons.ListingRecordBad ≡ recordAnswer input
   unfolding recordAnswer
   record-frame w = rw (sym e ∙ w)
 
   pub record-framed : b ≡ false → Framed input
   record-framed w = frame-facts input (sym e ∙ w)
 
-  module _ {d : Description} (m : d ≡ describedBy input) where
-    pub record-description : b ≡ false → isSegment d ≡ false → (answers.Refused reasons.DescriptionBad) ≡ recordAnswer input
-    unfolding recordAnswer
-    record-description w x = rw (sym e ∙ w, ap isSegment (sym m) ∙ x)
-
-    pub record-segment : b ≡ false → Segment d → (length (segmentIn input) ≡ lengthOf d → ⊥) → (answers.Refused reasons.SegmentLengthWrong) ≡ recordAnswer input
-    unfolding recordAnswer
-    record-segment w f n =
-        let other : eqb (length (segmentIn input)) (lengthOf (describedBy input)) ≡ false = rw (← m) (ne-eqb (length (segmentIn input)) (lengthOf d) n) in
-        rw (sym e ∙ w, ap isSegment (sym m) ∙ is-segment d f, other)
-
-    pub record-good : b ≡ false → Segment d → length (segmentIn input) ≡ lengthOf d → answers.Good ≡ recordAnswer input
-    unfolding recordAnswer
-    record-good w f n =
-        let same : eqb (length (segmentIn input)) (lengthOf (describedBy input)) ≡ true = rw (← m) (eq-eqb (length (segmentIn input)) (lengthOf d) n) in
-        rw (sym e ∙ w, ap isSegment (sym m) ∙ is-segment d f, same)
+  pub record-segment : {d : Description} {long : ℕ} {a : Answer} → b ≡ false → d ≡ describedBy input → long ≡ length input - 19 → a ≡ segmentRules d long → a ≡ recordAnswer input
+  unfolding recordAnswer
+  record-segment w m l f = rw (sym e ∙ w, segment-length input, ← l, ← m) f
 
 -- ---- what a record that is not refused is
 pub record Whole (input : List ℕ) : Type 0 where
@@ -88,22 +78,12 @@ pub record Whole (input : List ℕ) : Type 0 where
   pub segment : Segment (describedBy input)
   pub length : length (segmentIn input) ≡ lengthOf (describedBy input)
 
-passed : (f s l : Bool) → isGood (cond f (answers.Refused reasons.ListingRecordBad) (cond (not s) (answers.Refused reasons.DescriptionBad) (cond (not l) (answers.Refused reasons.SegmentLengthWrong) answers.Good))) ≡ true
-    → (f ≡ false) × ((s ≡ true) × (l ≡ true))
-passed true s l e = never e
-passed false false l e = never e
-passed false true false e = never e
-passed false true true e = (refl, (refl, refl))
-
 pub record-whole : (input : List ℕ) → isGood (recordAnswer input) ≡ true → Whole input
 unfolding recordAnswer
 record-whole input e =
-    let p = passed (frameBad input) (isSegment (describedBy input)) (eqb (length (segmentIn input)) (lengthOf (describedBy input))) e in
-    record {
-      frame = frame-facts input (p .0);
-      segment = segment-facts (describedBy input) (rw (p .1 .0) tt);
-      length = eqb-true _ _ (p .1 .1);
-    }
+    let two = both-good (refusedIf (frameBad input) reasons.ListingRecordBad) _ e in
+    let fit = rules-segment (describedBy input) (length (segmentIn input)) (two .1) in
+    record { frame = frame-facts input (not-refused _ _ (two .0)); segment = fit .0; length = fit .1 }
 
 -- ---- the description, field by field
 pub described-made : (input : List ℕ) {b w n : ℕ} → b ≡ numberAt 7 2 input → w ≡ numberAt 9 8 input → n ≡ numberAt 17 2 input

@@ -1,17 +1,17 @@
 -- "length L (4 bytes, big-endian, at most 65,532), then L bytes: version 1, P, e (one byte each), B (2), W (8), N (2), the
 -- segment."
 use Prim.Native.Nat.{ℕ, _+_, _≤_}
-use mathlib.Core.Bool.{Bool, not, _||_, cond}
+use mathlib.Core.Bool.{Bool, not, _||_}
 use mathlib.Core.List.{List}
 use mathlib.Core.Path.{_≡_}
 use lib.Dec.{eqb, ltb}
 use lib.ListN.{length, getD, drop}
 use Rattle.words.specs.BigEndian.{numberAt}
+use Rattle.answer.specs.Answer.{orElse, refusedIf}
 use Rattle.answer.specs.declared.Answer.{Answer}
-use Rattle.answer.specs.declared.Answer.the-variants as answers
 use Rattle.answer.specs.declared.Reason.the-variants as reasons
 use Rattle.segment.specs.declared.Description.{Description}
-use Rattle.segment.specs.Segment.{isSegment, lengthOf}
+use Rattle.segment.specs.Rules.{segmentRules}
 
 -- "Answer 13 for fewer than 4 bytes, L over its limit or below 15, not exactly L bytes following, or another version"
 unfoldable pub frameBad : List ℕ → Bool
@@ -35,12 +35,10 @@ describedBy input =
 unfoldable pub segmentIn : List ℕ → List ℕ
 segmentIn input = drop 19 input
 
--- "then 1, 2"
+-- "Answer 13 for ..; then 1, 2"
 unfoldable pub recordAnswer : List ℕ → Answer
 recordAnswer input =
-    cond (frameBad input) (answers.Refused reasons.ListingRecordBad)
-    (cond (not (isSegment (describedBy input))) (answers.Refused reasons.DescriptionBad)
-    (cond (not (eqb (length (segmentIn input)) (lengthOf (describedBy input)))) (answers.Refused reasons.SegmentLengthWrong) answers.Good))
+    orElse (refusedIf (frameBad input) reasons.ListingRecordBad) (segmentRules (describedBy input) (length (segmentIn input)))
 
 -- a record that is not bad, as facts
 pub record Framed (input : List ℕ) : Type 0 where

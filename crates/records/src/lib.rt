@@ -29,7 +29,7 @@ fn frame_bad(input: &[u8]) -> bool
 }
 
 // The description that a record gives.
-pub fn described(input: &[u8]) -> Description
+pub fn described_by(input: &[u8]) -> Description
     requires { ⌜ Framed (now input) ⌝ }
     ensures { λ d. ⌜ d ≡ describedBy (now (input .entry)) ⌝ }
 {
@@ -50,12 +50,5 @@ pub fn record_answer(input: &[u8]) -> Answer
     if frame_bad(input) {
         return Answer::Refused(Reason::ListingRecordBad);
     }
-    let d = described(input);
-    if !segment::fit(d) {
-        return Answer::Refused(Reason::DescriptionBad);
-    }
-    if input.len() - 19 != segment::length(d) {
-        return Answer::Refused(Reason::SegmentLengthWrong);
-    }
-    Answer::Good
+    segment::segment_rules(described_by(input), input.len() - 19)
 }

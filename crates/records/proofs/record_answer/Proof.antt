@@ -1,11 +1,8 @@
--- `records::record_answer`: the frame, the description, the length, in that order.
+-- `records::record_answer`: the frame, then the segment's rules.
 -- Assumes nothing.
+use mathlib.Core.Path.{refl}
 use native.Mathlib.Omega.{arith}
-use mathlib.Core.Path.{sym, _∙_}
-use Prim.Native.Nat.{_-_}
-use lib.ListN.{length}
-use Rattle.segment.proofs.Laws.{described, undescribed}
-use Rattle.records.proofs.RecordLaws.{record-frame, record-framed, record-description, record-segment, record-good, segment-length}
+use Rattle.records.proofs.RecordLaws.{record-frame, record-framed, record-segment}
 use borrow.Author.Needs.{needs}
 use Rattle.records.proofs.record_answer.Statement.{statement}
 use Rattle.records.proofs.record_answer.Tie as tie
@@ -13,23 +10,14 @@ use Rattle.records.proofs.record_answer.Tie as tie
 returns : tie.Need-returns
 returns c = record-frame _ (c .before .frame-bad .ensures) (c .if1 .taken)
 
-described-requires : tie.Need-described-requires
-described-requires c κs = record-framed _ (c .before .frame-bad .ensures) (c .if1 .left)
+described-by-requires : tie.Need-described-by-requires
+described-by-requires c κs = record-framed _ (c .before .frame-bad .ensures) (c .if1 .left)
+
+sub-segment-rules : tie.Need-sub-segment-rules
+sub-segment-rules c = let f = record-framed _ (c .before .before .frame-bad .ensures) (c .before .if1 .left) in omega (arith, f .whole, f .least)
 
 returns-2 : tie.Need-returns-2
-returns-2 c = record-description _ (c .before .before .before .before .frame-bad .ensures) (c .before .before .described .ensures) (c .before .before .before .if1 .left) (undescribed _ _ (c .before .fit .ensures) (c .if2 .taken))
-
-sub-if3 : tie.Need-sub-if3
-sub-if3 c = let f = record-framed _ (c .before .before .before .before .frame-bad .ensures) (c .before .before .before .if1 .left) in omega (arith, f .whole, f .least)
-
-length-requires : tie.Need-length-requires
-length-requires c κs = described _ _ (c .before .fit .ensures) (c .if2 .left)
-
-returns-3 : tie.Need-returns-3
-returns-3 c = record-segment _ (c .before .before .before .before .before .before .frame-bad .ensures) (c .before .before .before .before .described .ensures) (c .before .before .before .before .before .if1 .left) (described _ _ (c .before .before .before .fit .ensures) (c .before .before .if2 .left)) (λ e. c .if3 .taken (sym (segment-length _) ∙ e ∙ sym (c .before .length .ensures)))
-
-returns-4 : tie.Need-returns-4
-returns-4 c = record-good _ (c .before .before .before .before .before .before .frame-bad .ensures) (c .before .before .before .before .described .ensures) (c .before .before .before .before .before .if1 .left) (described _ _ (c .before .before .before .fit .ensures) (c .before .before .if2 .left)) (segment-length _ ∙ c .if3 .left ∙ c .before .length .ensures)
+returns-2 c = record-segment _ (c .before .before .before .frame-bad .ensures) (c .before .before .if1 .left) (c .before .described-by .ensures) refl (c .segment-rules .ensures)
 
 pub record-answer-spec : {M : Type 1} → statement M
 record-answer-spec =
@@ -37,10 +25,7 @@ record-answer-spec =
     (tie.spec
     (λ c κs. search needs)
     returns
-    described-requires
+    described-by-requires
+    sub-segment-rules
     (λ c κs. search needs)
-    returns-2
-    sub-if3
-    length-requires
-    returns-3
-    returns-4)
+    returns-2)
