@@ -25,7 +25,7 @@ use Rattle.command.specs.declared.Command.{Command}
 use Rattle.command.specs.declared.Decoded.the-variants.{Served}
 use Rattle.command.specs.declared.Operation.{Operation}
 use Rattle.command.specs.declared.Operation.the-variants.{Read, Write, Verify}
-use Rattle.blocks.specs.Blocks.{stripped}
+use Rattle.blocks.specs.Blocks.{userData}
 use Rattle.rules.specs.declared.Side.{Side}
 use Rattle.rules.specs.declared.Side.the-variants.{Sent, Stored}
 use Rattle.rules.specs.Sides.{checksOn, checkedOn}
@@ -49,10 +49,10 @@ none-of true b t e = refl
 none-of false true t e = e
 none-of false false t e = refl
 
-none-handed : (w : Bool) (s : List ℕ) (size k : ℕ) → s ≡ [] → k ≡ 0 → cond w s (stripped size k s) ≡ []
-unfolding stripped runs
+none-handed : (w : Bool) (s : List ℕ) (size k : ℕ) → s ≡ [] → k ≡ 0 → cond w s (userData size k s) ≡ []
+unfolding userData runs
 none-handed true s size k e z = e
-none-handed false s size k e z = ap (λ (n : ℕ). stripped size n s) z
+none-handed false s size k e z = ap (λ (n : ℕ). userData size n s) z
 
 beside-none : (d : Description) (c : Command) (old new : List ℕ) → spanOf d (c .length) ≡ 0 → Beside d c old new → new ≡ old
 beside-none d c old new z b =
@@ -131,7 +131,7 @@ module _ (d : Description) (command : List ℕ) (l : Lent) (c : Command) (served
   -- "Stored fields are judged before they are taken off": each interval of the blocks whose user data is handed out is right
   pub judged-before-taken-off : Bytes command → c .operation ≡ Read → c .code ≡ 0 → (d .kind ≡ 0 → ⊥)
       → ((j i : ℕ) → j < c .length → i < intervalsOf d → verdictAt Stored d c (blocksOf d c (l .segment)) j i ≡ answers.Good)
-      × (executed d command l .left .buffer ≡ stripped (sizeOf d) (c .length * intervalsOf d) (blocksOf d c (l .segment)))
+      × (executed d command l .left .buffer ≡ userData (sizeOf d) (c .length * intervalsOf d) (blocksOf d c (l .segment)))
   judged-before-taken-off bytes r zero fields = (
     rw (checked-all Stored d c fields (ap (λ (o : Operation). checksOn Stored o c) r)) at
         (good-exactly-when-all-right d command l c bytes (good-in-order d command l c served (ap isGood good)) .0 good Stored),

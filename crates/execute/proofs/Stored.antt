@@ -15,7 +15,7 @@ use Rattle.segment.specs.Places.{offsetOf, spanOf, blocksFrom}
 use Rattle.segment.proofs.Places.{span-within}
 use Rattle.command.specs.declared.Command.{Command}
 use Rattle.command.specs.declared.Operation.the-variants.{Write}
-use Rattle.blocks.specs.Blocks.{stripped}
+use Rattle.blocks.specs.Blocks.{userData}
 use Rattle.insertion.specs.Insertion.{storedBlocks}
 use Rattle.insertion.proofs.Laws.{blocks-length, blocks-read}
 use Rattle.blocks.proofs.Places.{put-before, put-there, put-behind}
@@ -83,7 +83,7 @@ module _ (d : Description) (c : Command) (l : Lent) (r : Ready d c (lengthsOf l)
       by true e = handed-whole d k (received d c buffer) (same ∙ e) ∙ received-whole d c buffer e
       by false e =
           sym (handed-parted d k (received d c buffer) _ (sizeOf d) (intervalsOf d) (same ∙ e) refl refl refl)
-          ∙ ap₂ (λ (n : ℕ) (x : List ℕ). stripped (sizeOf d) (n * intervalsOf d) x) long (sym (inserted e))
+          ∙ ap₂ (λ (n : ℕ) (x : List ℕ). userData (sizeOf d) (n * intervalsOf d) x) long (sym (inserted e))
           ∙ blocks-read (sizeOf d) (intervalsOf d) (c .length) (marksOf d c) buffer (le-of-eq (enough e))
           ∙ take-all (c .length * (intervalsOf d * sizeOf d)) buffer (le-of-eq (sym (enough e)))
 

@@ -27,7 +27,7 @@ use Rattle.interval.specs.Interval.{escapes, anyEscapes}
 use Rattle.judge.specs.Judge.{judgeBlock, judgeBlocks, nextBlock}
 use Rattle.judge.proofs.FirstLaws.{first-good}
 use Rattle.judge.proofs.BlockLaws.{block-escaped}
-use Rattle.blocks.specs.Blocks.{stripped}
+use Rattle.blocks.specs.Blocks.{userData}
 use Rattle.rules.specs.Rules.{escapeOf, rulesOf, startOf}
 use Rattle.rules.specs.Intervals.{intervalAt, skipped}
 use Rattle.filling.specs.Fresh.{freshIntervals, filledOf}
@@ -138,7 +138,7 @@ module _ (d : Description) (old command buffer : List ℕ) (c : Command)
       rw in-order
       (handed-out d c (filledOf d old .segment) buffer (c .operation) _ r (judged-good (read-no-write (c .operation) r))
       ∙ sym (handed-parted d c (blocksOf d c (filledOf d old .segment)) _ (sizeOf d) (intervalsOf d) (whole-not d c fields z) refl refl refl)
-      ∙ ap (stripped (sizeOf d) (c .length * intervalsOf d)) blocks-fresh
+      ∙ ap (userData (sizeOf d) (c .length * intervalsOf d)) blocks-fresh
       ∙ zeros (sizeOf d) (c .length * intervalsOf d) ∙ ap (λ (x : ℕ). replicate x 0x00) (sym room))
 
 -- ---- and every one with a code that the type allows goes on

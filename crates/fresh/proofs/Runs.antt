@@ -9,7 +9,7 @@ use lib.ListN.{length, take, drop, replicate, length-append, length-replicate, r
 use lib.Seq.{drop-drop, take-at, drop-at, take-append-add}
 use Rattle.words.specs.Runs.{runs}
 use Rattle.field.specs.Field.{fieldOf}
-use Rattle.blocks.specs.Blocks.{stripped}
+use Rattle.blocks.specs.Blocks.{userData}
 use Rattle.filling.specs.Fresh.{freshInterval, freshIntervals}
 
 module _ (size : ℕ) where
@@ -76,10 +76,10 @@ module _ (size : ℕ) where
       ∙ ap₂ (λ (x y : ℕ). x + y) interval-length (run-length k) ∙ add-comm (size + 8) (k * (size + 8)) ∙ sym (suc-mul k (size + 8))
 
   -- the user data of fresh intervals is zero
-  pub zeros : (k : ℕ) → stripped size k (freshIntervals size k) ≡ replicate (k * size) 0x00
-  unfolding stripped runs
+  pub zeros : (k : ℕ) → userData size k (freshIntervals size k) ≡ replicate (k * size) 0x00
+  unfolding userData runs
   zeros zero = rw zero-mul refl
   zeros (suc k) =
       rw (suc-mul, add-comm (k * size) size)
-      (ap₂ (λ (x y : List ℕ). x ++ y) (first-data k) (ap (stripped size k) (behind-one k) ∙ zeros k)
+      (ap₂ (λ (x y : List ℕ). x ++ y) (first-data k) (ap (userData size k) (behind-one k) ∙ zeros k)
       ∙ replicate-append-replicate size (k * size) 0x00)

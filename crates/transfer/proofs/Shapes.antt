@@ -25,7 +25,7 @@ use Rattle.rules.specs.Sides.{checksOn, checkedOn}
 use Rattle.rules.proofs.Laws.{checks-all, checked-all}
 use Rattle.rules.specs.Inserted.{marksOf}
 use Rattle.insertion.specs.declared.Marks.{Marks}
-use Rattle.blocks.specs.Blocks.{stripped}
+use Rattle.blocks.specs.Blocks.{userData}
 use Rattle.insertion.specs.Insertion.{storedBlocks}
 use Rattle.refusal.specs.Refusal.{movedOf}
 use Rattle.refusal.proofs.Rules.{moved-plain, moved-whole}
@@ -124,7 +124,7 @@ module _ (d : Description) (c : Command) where
   unfolding handed
   handed-whole s e = rw e
 
-  pub handed-parted : (s new : List ℕ) (size n : ℕ) → whole d c ≡ false → size ≡ sizeOf d → n ≡ intervalsOf d → new ≡ stripped size (c .length * n) s → new ≡ handed d c s
+  pub handed-parted : (s new : List ℕ) (size n : ℕ) → whole d c ≡ false → size ≡ sizeOf d → n ≡ intervalsOf d → new ≡ userData size (c .length * n) s → new ≡ handed d c s
   unfolding handed
   handed-parted s new size n e a b m = m ∙ rw (e, a, b)
 
@@ -143,10 +143,10 @@ module _ (d : Description) (c : Command) where
       → new ≡ put at (storedBlocks size n (c .length) m b) s → new ≡ put at (received d c b) s
   stored-parted at size n m s b new e z i f w = w ∙ ap (λ (x : List ℕ). put at x s) (received-parted b size n m e z i f)
 
--- ---- the parts that strip, store and insert are handed
+-- ---- the parts that taking user data, storing and insert are handed
 module _ (d : Description) (c : Command) (size n : ℕ) (z : size ≡ sizeOf d) (i : n ≡ intervalsOf d) where
-  pub strip-fits : (s b : ℕ) → Shaped d c → s ≡ spanOf d (c .length) → Fitted d c b → Parted d c → (c .length * n * (size + 8) ≡ s) × (c .length * n * size ≡ b)
-  strip-fits s b h l f p =
+  pub user-data-fits : (s b : ℕ) → Shaped d c → s ≡ spanOf d (c .length) → Fitted d c b → Parted d c → (c .length * n * (size + 8) ≡ s) × (c .length * n * size ≡ b)
+  user-data-fits s b h l f p =
       (rw (z, i) (span-flat d c (h .described) (p .fields) ∙ sym l), rw (z, i) (moved-flat d c (h .described) (p .zero) ∙ sym (f .room)))
 
   pub insert-fits : (at s b : ℕ) → Shaped d c → at + spanOf d (c .length) ≤ s → Fitted d c b → Parted d c

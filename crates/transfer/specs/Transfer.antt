@@ -10,7 +10,7 @@ use Rattle.segment.specs.Segment.{intervalsOf, sizeOf}
 use Rattle.segment.specs.Places.{blocksFrom}
 use Rattle.command.specs.declared.Command.{Command}
 use Rattle.judge.specs.Judge.{judgeBlocks}
-use Rattle.blocks.specs.Blocks.{stripped}
+use Rattle.blocks.specs.Blocks.{userData}
 use Rattle.insertion.specs.Insertion.{storedBlocks}
 use Rattle.rules.specs.declared.Side.{Side}
 use Rattle.rules.specs.declared.Side.the-variants.{Sent, Stored}
@@ -37,7 +37,7 @@ whole d c = eqb (d .kind) 0 || not (eqb (c .code) 0)
 -- "A good READ fills its buffer with the transfer's blocks in order: their user data alone with 000, else all S stored bytes
 -- of each."
 unfoldable pub handed : Description → Command → List ℕ → List ℕ
-handed d c s = cond (whole d c) s (stripped (sizeOf d) (c .length * intervalsOf d) s)
+handed d c s = cond (whole d c) s (userData (sizeOf d) (c .length * intervalsOf d) s)
 
 -- "received fields are stored as received"; for 000 they are inserted
 unfoldable pub received : Description → Command → List ℕ → List ℕ

@@ -68,7 +68,7 @@ pub fn hand_out(d: Description, c: Command, s: &[u8], buffer: &mut [u8])
     }
     let size = segment::size(d);
     let count = c.length as usize * segment::intervals(d);
-    blocks::strip(buffer, s, size, count);
+    blocks::take_user_data(buffer, s, size, count);
 }
 
 // Overwrites the transfer's blocks of the segment, from `at` on, with what was received.

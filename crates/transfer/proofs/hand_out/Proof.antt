@@ -1,8 +1,8 @@
--- `transfer::hand_out`: whole blocks are copied, others stripped.
+-- `transfer::hand_out`: whole blocks are copied, others userData.
 -- Assumes nothing.
 use mathlib.Core.Path.{sym, _∙_}
 use native.Mathlib.Omega.{arith}
-use Rattle.transfer.proofs.Shapes.{moved-when-whole, parted, handed-whole, handed-parted, strip-fits, intervals-few}
+use Rattle.transfer.proofs.Shapes.{moved-when-whole, parted, handed-whole, handed-parted, user-data-fits, intervals-few}
 use borrow.Author.Needs.{needs}
 use Rattle.transfer.proofs.hand_out.Statement.{statement}
 use Rattle.transfer.proofs.hand_out.Tie as tie
@@ -22,11 +22,11 @@ intervals-requires c κs = c .before .before .before .before .before .pre .0 .de
 mul-count : tie.Need-mul-count
 mul-count c = rw (c .intervals .ensures) (omega (arith, intervals-few (c .before .before .before .before .before .before .args .d) (c .before .before .before .before .before .before .args .c) (c .before .before .before .before .before .before .pre .0 .described) (c .before .before .before .before .before .before .pre .0 .few)))
 
-strip-requires : tie.Need-strip-requires
-strip-requires c κs = let f = strip-fits _ (c .before .before .before .before .before .before .before .args .c) _ _ (c .before .before .size .ensures) (c .before .intervals .ensures) _ _ (c .before .before .before .before .before .before .before .pre .0) (c .before .before .before .before .before .before .before .pre .1 .0) (c .before .before .before .before .before .before .before .pre .1 .1) (parted _ _ (sym (c .before .before .before .before .whole .ensures) ∙ c .before .before .before .if1 .left)) in (f .0, f .1)
+take-user-data-requires : tie.Need-take-user-data-requires
+take-user-data-requires c κs = let f = user-data-fits _ (c .before .before .before .before .before .before .before .args .c) _ _ (c .before .before .size .ensures) (c .before .intervals .ensures) _ _ (c .before .before .before .before .before .before .before .pre .0) (c .before .before .before .before .before .before .before .pre .1 .0) (c .before .before .before .before .before .before .before .pre .1 .1) (parted _ _ (sym (c .before .before .before .before .whole .ensures) ∙ c .before .before .before .if1 .left)) in (f .0, f .1)
 
 returns-2 : tie.Need-returns-2
-returns-2 c = handed-parted _ _ _ _ _ _ (sym (c .before .before .before .before .before .before .before .whole .ensures) ∙ c .before .before .before .before .before .before .if1 .left) (c .before .before .before .before .before .size .ensures) (c .before .before .before .before .intervals .ensures) (c .before .before .strip .ensures)
+returns-2 c = handed-parted _ _ _ _ _ _ (sym (c .before .before .before .before .before .before .before .whole .ensures) ∙ c .before .before .before .before .before .before .if1 .left) (c .before .before .before .before .before .size .ensures) (c .before .before .before .before .intervals .ensures) (c .before .before .take-user-data .ensures)
 
 pub hand-out-spec : {M : Type 1} → statement M
 hand-out-spec =
@@ -39,6 +39,6 @@ hand-out-spec =
     size-requires
     intervals-requires
     mul-count
-    strip-requires
+    take-user-data-requires
     (λ c. search needs)
     returns-2)
