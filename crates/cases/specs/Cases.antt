@@ -5,9 +5,11 @@ use lib.ListN.{replicate}
 use Rattle.words.specs.BigEndian.{bytes}
 use Rattle.guard.specs.Guard.{guard}
 use Rattle.answer.specs.Answer.{numberOf, addressOf, placeOf}
+use Rattle.answer.specs.Outcome.{Outcome}
 use Rattle.segment.specs.declared.Description.{Description}
-use Rattle.execute.specs.Execute.{Outcome, executed}
-use Rattle.stripe.specs.Stripe.{Striped, makeAnswered}
+use Rattle.execute.specs.Lent.{Lent, lent}
+use Rattle.execute.specs.Execute.{executed}
+use Rattle.stripe.specs.Stripe as stripe
 
 -- what comes of a case, in the paper's numbers, with every lent byte afterwards
 pub data Result : Type 0 where
@@ -42,17 +44,17 @@ pub data Case : Type 0 where
   execute : CommandCase → Case
   parity : ParityCase → Case
 
-abbrev pub answerOf : Outcome → Result
-answerOf o = answered (numberOf (o .answer)) (addressOf (o .answer)) (placeOf (o .answer)) (o .segment) (o .buffer)
+abbrev pub answerOf : Outcome Lent → Result
+answerOf o = answered (numberOf (o .answer)) (addressOf (o .answer)) (placeOf (o .answer)) (o .left .segment) (o .left .buffer)
 
-abbrev pub madeIn : Striped → Result
-madeIn r = made (numberOf (r .answer)) (r .lent)
+abbrev pub madeIn : Outcome (List ℕ) → Result
+madeIn o = made (numberOf (o .answer)) (o .left)
 
 -- by the definitions
 abbrev pub result : Case → Result
 result (guardOf v) = guarded (guard (v .bytes))
-result (execute c) = answerOf (executed (c .description) (c .segment) (c .command) (c .buffer))
-result (parity c) = madeIn (makeAnswered (c .description) (c .count) (c .members) (replicate 16 0))
+result (execute c) = answerOf (executed (c .description) (c .command) (lent (c .segment) (c .buffer)))
+result (parity c) = madeIn (stripe.made (c .description) (c .count) (c .members) (replicate 16 0))
 
 -- by the paper
 abbrev pub expected : Case → Result
