@@ -7,23 +7,22 @@ use Rattle.answer.specs.Answer.{numberOf, addressOf, placeOf}
 use Rattle.answer.specs.Outcome.{Outcome, outcome}
 use Rattle.answer.specs.declared.Answer.{Answer}
 use Rattle.segment.specs.declared.Description.{Description}
-use Rattle.execute.specs.Execute.{Outcome, outcome, executed}
+use Rattle.execute.specs.Lent.{Lent}
+use Rattle.execute.specs.Execute.{executed}
 use Rattle.format.specs.declared.Choice.{Choice}
 use Rattle.filling.specs.Fresh.{filled}
 use Rattle.stripe.specs.Stripe.{made, rebuilt, corrected}
 use Rattle.lamptassel.specs.Answers.{Executed, Chosen, Answered}
 
-pub executed-told : (d d′ : Description) (segment command buffer s b : List ℕ) (x : Answer) (r a p : ℕ) → d ≡ d′
-    → outcome x s b ≡ executed d segment command buffer → r ≡ numberOf x → a ≡ addressOf x → p ≡ placeOf x
-    → Executed (executed d′ segment command buffer) r a p s b
-executed-told d d′ segment command buffer s b x r a p same e n at here =
-    let whole : outcome x s b ≡ executed d′ segment command buffer = e ∙ ap (λ (y : Description). executed y segment command buffer) same in
+pub executed-told : (d d′ : Description) (command : List ℕ) (l left : Lent) (x : Answer) (r a p : ℕ) → d ≡ d′
+    → outcome x left ≡ executed d command l → r ≡ numberOf x → a ≡ addressOf x → p ≡ placeOf x → Executed (executed d′ command l) r a p left
+executed-told d d′ command l left x r a p same e n at here =
+    let whole : outcome x left ≡ executed d′ command l = e ∙ ap (λ (y : Description). executed y command l) same in
     record {
-      answer = n ∙ ap (λ (o : Outcome). numberOf (o .answer)) whole;
-      address = at ∙ ap (λ (o : Outcome). addressOf (o .answer)) whole;
-      place = here ∙ ap (λ (o : Outcome). placeOf (o .answer)) whole;
-      segment = ap (λ (o : Outcome). o .segment) whole;
-      buffer = ap (λ (o : Outcome). o .buffer) whole;
+      answer = n ∙ ap (λ (o : Outcome Lent). numberOf (o .answer)) whole;
+      address = at ∙ ap (λ (o : Outcome Lent). addressOf (o .answer)) whole;
+      place = here ∙ ap (λ (o : Outcome Lent). placeOf (o .answer)) whole;
+      left = ap (λ (o : Outcome Lent). o .left) whole;
     }
 
 -- one list is lent

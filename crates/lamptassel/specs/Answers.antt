@@ -5,21 +5,20 @@ use mathlib.Core.Path.{_≡_}
 use Rattle.answer.specs.Answer.{numberOf, addressOf, placeOf}
 use Rattle.answer.specs.Outcome.{Outcome}
 use Rattle.segment.specs.declared.Description.{Description}
-use Rattle.execute.specs.Execute.{Outcome}
+use Rattle.execute.specs.Lent.{Lent}
 use Rattle.format.specs.declared.Choice.{Choice}
 
 -- "type P, block length B, exponent e, first address W, count N and the bit ATO", in this order
 abbrev pub described : ℕ → ℕ → ℕ → ℕ → ℕ → ℕ → Description
 described p b e w n ato = record { kind = p; block = b; exponent = e; first = w; count = n; ato = ato }
 
--- a command's answer r, the numbers a and p in the places lent for them, the segment s and the buffer b:
+-- a command's answer r, the numbers a and p in the places lent for them, and what is left of segment and buffer:
 -- "Numbers 8 to 10 also give the block's address and the interval's place in the transfer, from 0; all others give 0 and 0."
-pub record Executed (o : Outcome) (r a p : ℕ) (s b : List ℕ) : Type 0 where
+pub record Executed (o : Outcome Lent) (r a p : ℕ) (l : Lent) : Type 0 where
   pub answer : r ≡ numberOf (o .answer)
   pub address : a ≡ addressOf (o .answer)
   pub place : p ≡ placeOf (o .answer)
-  pub segment : s ≡ o .segment
-  pub buffer : b ≡ o .buffer
+  pub left : l ≡ o .left
 
 -- a format choice's answer r, and the type t in the place lent for it: "Answer 0 comes with the type; a refusal comes with type 0."
 pub record Chosen (c : Choice) (r t : ℕ) : Type 0 where

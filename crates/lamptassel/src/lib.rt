@@ -3,6 +3,7 @@ ghost use mathlib.Core.Path.{_≡_};
 ghost use Rattle.guard.specs.Guard.{guard};
 ghost use Rattle.guard.specs.Guards.{guards};
 ghost use Rattle.answer.specs.Answer.{senseNumbered};
+ghost use Rattle.execute.specs.Lent.{lent};
 ghost use Rattle.execute.specs.Execute.{executed};
 ghost use Rattle.format.specs.Choice.{choiceOf};
 ghost use Rattle.filling.specs.Fresh.{filled};
@@ -40,7 +41,7 @@ pub extern "C" fn lamptassel_execute(
     address: &mut u64,
     place: &mut u64,
 ) -> u64
-    ensures { λ r. ⌜ Executed (executed (described kind block exponent first count ato) (now (segment .entry)) (now (command .entry)) (now (buffer .entry))) r (now (address .exit)) (now (place .exit)) (now (segment .exit)) (now (buffer .exit)) ⌝ }
+    ensures { λ r. ⌜ Executed (executed (described kind block exponent first count ato) (now (command .entry)) (lent (now (segment .entry)) (now (buffer .entry)))) r (now (address .exit)) (now (place .exit)) (lent (now (segment .exit)) (now (buffer .exit))) ⌝ }
 {
     let d = described(kind, block, exponent, first, count, ato);
     let a = execute::execute(d, segment, command, buffer);

@@ -7,7 +7,7 @@ use Rattle.lamptassel.proofs.Laws.{executed-told}
 
 returns : tie.Need-returns
 returns c =
-    executed-told _ _ _ _ _ _ _ _ _ _ _ (c .before .before .before .before .before .before .before .before .before .before .described .ensures) (c .before .before .before .before .before .before .before .execute .ensures) (c .number .ensures) (c .before .before .address .ensures) (c .before .place .ensures)
+    executed-told _ _ _ _ _ _ _ _ _ (c .before .before .before .before .before .before .before .before .before .before .described .ensures) (c .before .before .before .before .before .before .before .execute .ensures) (c .number .ensures) (c .before .before .address .ensures) (c .before .place .ensures)
 
 pub lamptassel-execute-spec : {M : Type 1} → statement M
 lamptassel-execute-spec =
