@@ -1,10 +1,11 @@
 -- Each answer's number is one of the table's, with the table's sense; of these 0 is good and no other is. A refusal leaves what was lent.
 -- Assumes nothing.
+use Prim.Native.Nat.{ℕ}
 use mathlib.Core.Path.{_≡_, refl, sym}
-use mathlib.Core.Bool.{true, false}
+use mathlib.Core.Bool.{Bool, true, false, _&&_}
 use mathlib.Core.List.{map}
-use lib.Dec.{eqb}
-use Rattle.answer.specs.Answer.{fieldNumber, reasonNumber, numberOf, isGood, senseNumbered, Row, table, inTable}
+use lib.Dec.{eqb, leb}
+use Rattle.answer.specs.Answer.{fieldNumber, reasonNumber, numberOf, isGood, forProtection, senseNumbered, Row, table, inTable}
 use Rattle.answer.specs.Outcome.{leaving}
 use Rattle.answer.specs.declared.Answer.{Answer}
 use Rattle.answer.specs.declared.Answer.the-variants.{Good, Wrong, Refused}
@@ -13,23 +14,27 @@ use Rattle.answer.specs.declared.Field.the-variants.{Guard, Application,
 use Rattle.answer.specs.declared.Reason.{Reason}
 use Rattle.answer.specs.declared.Reason.the-variants.{DescriptionBad, SegmentLengthWrong, CommandLengthWrong, BufferLengthWrong, OperationInvalid, FieldInvalid, AddressOutOfRange, StripeShapeBad, ParameterInvalid, ListingRecordBad, TransferTooLarge}
 
-field-there : (f : Field) → (eqb (fieldNumber f) 0 ≡ false) × (inTable (fieldNumber f) ≡ true)
-field-there Guard = (refl, refl)
-field-there Application = (refl, refl)
-field-there Reference = (refl, refl)
+-- a number of the table, not 0, that stands for a failed check or not
+abbrev There : ℕ → Bool → Type 0
+There n p = (eqb n 0 ≡ false) × (inTable n ≡ true) × (leb 8 n && leb n 10 ≡ p)
 
-reason-there : (r : Reason) → (eqb (reasonNumber r) 0 ≡ false) × (inTable (reasonNumber r) ≡ true)
-reason-there DescriptionBad = (refl, refl)
-reason-there SegmentLengthWrong = (refl, refl)
-reason-there CommandLengthWrong = (refl, refl)
-reason-there BufferLengthWrong = (refl, refl)
-reason-there OperationInvalid = (refl, refl)
-reason-there FieldInvalid = (refl, refl)
-reason-there AddressOutOfRange = (refl, refl)
-reason-there StripeShapeBad = (refl, refl)
-reason-there ParameterInvalid = (refl, refl)
-reason-there ListingRecordBad = (refl, refl)
-reason-there TransferTooLarge = (refl, refl)
+field-there : (f : Field) → There (fieldNumber f) true
+field-there Guard = (refl, refl, refl)
+field-there Application = (refl, refl, refl)
+field-there Reference = (refl, refl, refl)
+
+reason-there : (r : Reason) → There (reasonNumber r) false
+reason-there DescriptionBad = (refl, refl, refl)
+reason-there SegmentLengthWrong = (refl, refl, refl)
+reason-there CommandLengthWrong = (refl, refl, refl)
+reason-there BufferLengthWrong = (refl, refl, refl)
+reason-there OperationInvalid = (refl, refl, refl)
+reason-there FieldInvalid = (refl, refl, refl)
+reason-there AddressOutOfRange = (refl, refl, refl)
+reason-there StripeShapeBad = (refl, refl, refl)
+reason-there ParameterInvalid = (refl, refl, refl)
+reason-there ListingRecordBad = (refl, refl, refl)
+reason-there TransferTooLarge = (refl, refl, refl)
 
 -- "0 good": "Any answer but 0" is a refusal
 pub good-is-zero : (a : Answer) → isGood a ≡ eqb (numberOf a) 0
@@ -42,6 +47,13 @@ pub in-table : (a : Answer) → inTable (numberOf a) ≡ true
 in-table Good = refl
 in-table (Wrong f a p) = field-there f .1
 in-table (Refused r) = reason-there r .1
+
+-- "8, 9, 10": exactly the answers on a field
+pub wrong-for-protection : (f : Field) (a p : ℕ) → forProtection (Wrong f a p) ≡ true
+wrong-for-protection f a p = field-there f .2
+
+pub refused-for-no-field : (r : Reason) → forProtection (Refused r) ≡ false
+refused-for-no-field r = reason-there r .2
 
 -- "| sense |": of each of the table's numbers the sense that stands in its row
 pub senses-as-listed : map (λ (r : Row). senseNumbered (r .number)) table ≡ map (λ (r : Row). r .sense) table

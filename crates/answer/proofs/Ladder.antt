@@ -1,13 +1,38 @@
 -- A ladder of rules: the first that refuses answers, and below those that do not the others go on.
 -- Assumes nothing.
-use mathlib.Core.Path.{_≡_, refl, sym, _∙_}
+use mathlib.Core.Path.{_≡_, refl, sym, ap, _∙_}
+use mathlib.Core.Logic.{_↔_, _⊎_, inl, inr, ⊎-elim}
 use mathlib.Core.Bool.{Bool, true, false, not, cond, true≢false}
 use borrow.Author.Tests.{not-true, not-false}
 use lib.Dec.{T}
 use Rattle.answer.specs.Answer.{isGood, orElse, refusedIf}
 use Rattle.answer.specs.declared.Answer.{Answer}
-use Rattle.answer.specs.declared.Answer.the-variants.{Good, Refused}
+use Rattle.answer.specs.declared.Answer.the-variants.{Good, Wrong, Refused}
 use Rattle.answer.specs.declared.Reason.{Reason}
+
+-- an answer is the good one, or no good one
+pub good-or : (a : Answer) → (a ≡ Good) ⊎ (isGood a ≡ false)
+good-or Good = inl refl
+good-or (Wrong f a p) = inr refl
+good-or (Refused r) = inr refl
+
+pub not-both : (a : Answer) → a ≡ Good → isGood a ≡ false → ⊥
+not-both a g w = true≢false (sym (ap isGood g) ∙ w)
+
+pub good-is : (a : Answer) → isGood a ≡ true → a ≡ Good
+good-is a g = ⊎-elim (λ e. e) (λ w. absurd (true≢false (sym g ∙ w))) (good-or a)
+
+pub orElse-good : (a b : Answer) → (orElse a b ≡ Good) ↔ ((a ≡ Good) × (b ≡ Good))
+orElse-good a b =
+    ⊎-elim
+    (λ g. rw g (λ e. (refl, e), λ two. two .1))
+    (λ w. rw w (λ e. absurd (not-both a e w), λ two. two .0))
+    (good-or a)
+
+pub orElse-assoc : (a b c : Answer) → orElse a (orElse b c) ≡ orElse (orElse a b) c
+orElse-assoc Good b c = refl
+orElse-assoc (Wrong f a p) b c = refl
+orElse-assoc (Refused r) b c = refl
 
 -- `a` is what a rule's function answered, `g` whether that is good
 module _ (a rule rest : Answer) (g : Bool) (e : a ≡ rule) (t : g ≡ isGood a) where

@@ -1,8 +1,8 @@
 -- "Answer numbers": the table's number, sense, address and place for each answer.
 use Prim.Native.Nat.{ℕ}
-use mathlib.Core.Bool.{Bool, true, false, _||_, cond}
+use mathlib.Core.Bool.{Bool, true, false, _&&_, _||_, cond}
 use mathlib.Core.List.{List, [], _∷_}
-use lib.Dec.{eqb}
+use lib.Dec.{eqb, leb}
 use Rattle.answer.specs.declared.Answer.{Answer}
 use Rattle.answer.specs.declared.Answer.the-variants.{Good, Wrong, Refused}
 use Rattle.answer.specs.declared.Field.{Field}
@@ -51,6 +51,10 @@ abbrev pub isGood : Answer → Bool
 isGood Good = true
 isGood (Wrong f a p) = false
 isGood (Refused r) = false
+
+-- "8, 9, 10 | guard, application, reference check failed"
+abbrev pub forProtection : Answer → Bool
+forProtection a = leb 8 (numberOf a) && leb (numberOf a) 10
 
 -- a rule: the refusal where something holds
 abbrev pub refusedIf : Bool → Reason → Answer

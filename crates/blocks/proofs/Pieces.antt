@@ -10,8 +10,7 @@ use lib.ListN.{length, take, drop, length-append, length-drop, take-append-drop}
 use lib.Seq.{drop-append-le, drop-at, take-add, length-take-le}
 use Rattle.words.specs.Parts.{Bytes}
 use Rattle.words.specs.Runs.{runs}
-use Rattle.words.proofs.Parts.{part-at, one-more, drop-more, drop-bytes}
-use Rattle.blocks.proofs.Places.{append-bytes}
+use Rattle.words.proofs.Parts.{part-at, one-more, drop-more, drop-bytes, append-bytes}
 
 -- one piece, and the rest
 pub one-within : (k P n : ℕ) → suc k * P ≤ n → P ≤ n

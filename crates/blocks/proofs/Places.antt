@@ -1,33 +1,23 @@
--- Laws on what was put at a place of a list: before it, behind it and there; and of bytes, that they stay bytes.
+-- Laws on what was put at a place of a list: before it, behind it and there; of bytes, that they stay bytes.
 -- Assumes nothing.
 use mathlib.Core.Path.{_≡_, sym, ap, _∙_}
-use mathlib.Core.List.{List, [], _∷_, _++_, append-assoc, append-nil}
-use Prim.Native.Nat.{ℕ, zero, suc, _+_, _-_, _/_, _%_, _^_, _<_, _≤_}
-use native.Mathlib.Nat.{mod-lt, zero-add}
+use mathlib.Core.List.{List, _++_, append-assoc, append-nil}
+use Prim.Native.Nat.{ℕ, _+_, _-_, _≤_}
+use native.Mathlib.Nat.{zero-add}
 use native.Mathlib.Omega.{arith}
-use lib.Dec.{lit<}
 use lib.ListN.{length, take, drop, length-append}
-use lib.Seq.{take-append-le, take-append-seam, take-take, take-at, drop-at, drop-append-add, drop-drop, length-take-le, drop-length}
-use Rattle.words.specs.BigEndian.{number, numberAt, bytes}
+use lib.Seq.{take-append-le, take-append-seam, take-take, drop-at, drop-append-add, drop-drop, length-take-le, drop-length}
 use Rattle.words.specs.Parts.{put, Bytes}
-use Rattle.words.proofs.BigEndian.{bytes-length, number-bytes}
-use Rattle.words.proofs.Parts.{take-bytes, drop-bytes}
+use Rattle.words.proofs.Parts.{take-bytes, drop-bytes, append-bytes}
 
 -- ---- what was put at a place
 module _ (at : ℕ) (new old : List ℕ) (fits : at + length new ≤ length old) where
   before : length (take at old) ≡ at
   before = length-take-le at old (omega arith)
 
-  -- up to the place, and up to the end of what was put there
   pub put-before : (n : ℕ) → n ≤ at → take n (put at new old) ≡ take n old
   unfolding put
   put-before n h = take-append-le n (take at old) _ (rw before h) ∙ take-take n at old h
-
-  pub put-upto : take (at + length new) (put at new old) ≡ take at old ++ new
-  unfolding put
-  put-upto =
-      ap (take (at + length new)) (sym (append-assoc (take at old) new (drop (at + length new) old)))
-      ∙ take-at (take at old ++ new) (drop (at + length new) old) (at + length new) (rw (length-append, before))
 
   pub put-there : take (length new) (drop at (put at new old)) ≡ new
   unfolding put
@@ -48,30 +38,8 @@ pub put-all : (new old : List ℕ) → length new ≡ length old → put 0 new o
 unfolding put
 put-all new old e = rw (zero-add, e, drop-length, append-nil)
 
--- ---- bytes
-pub append-bytes : (a b : List ℕ) → Bytes a → Bytes b → Bytes (a ++ b)
-append-bytes [] b p q i = q i
-append-bytes (x ∷ a) b p q zero = p 0
-append-bytes (x ∷ a) b p q (suc i) = append-bytes a b (λ j. p (suc j)) q i
-
 pub put-bytes : (at : ℕ) (new old : List ℕ) → Bytes new → Bytes old → Bytes (put at new old)
 unfolding put
 put-bytes at new old p q =
     append-bytes (take at old) _ (take-bytes at old q)
     (append-bytes new _ p (drop-bytes (at + length new) old q))
-
-one-byte : (b : ℕ) → b < 256 → Bytes (b ∷ [])
-one-byte b h zero = h
-one-byte b h (suc i) = lit< tt
-
-pub bytes-bytes : (w n : ℕ) → Bytes (bytes w n)
-unfolding bytes
-bytes-bytes zero n = λ i. lit< tt
-bytes-bytes (suc w) n = append-bytes (bytes w (n / 256)) _ (bytes-bytes w (n / 256)) (one-byte (n % 256) (mod-lt n (lit< tt)))
-
--- a number that was written at a place is the number read there
-pub number-there : (at w n : ℕ) (a b : List ℕ) → length a ≡ at → n < 256 ^ w → numberAt at w (a ++ (bytes w n ++ b)) ≡ n
-unfolding numberAt
-number-there at w n a b e h =
-    ap (λ (l : List ℕ). number (take w l)) (drop-at a (bytes w n ++ b) at e)
-    ∙ ap number (take-at (bytes w n) b w (bytes-length w n)) ∙ number-bytes w n h

@@ -9,14 +9,15 @@ use Rattle.words.specs.Xor.{xors}
 use Rattle.guard.specs.Guard.{guard, divide, takeOff, terms, termsOf}
 use Rattle.segment.specs.Segment.{isSegment, intervalsOf, sizeOf, storedOf, lengthOf}
 use Rattle.command.specs.Command.{recognise, fields, decodeAs, decode}
-use Rattle.interval.specs.Interval.{storedGuard, storedApplication, storedReference, escapes, dataOf, fieldOf, anyEscapes, guardWrong, applicationWrong, referenceWrong, judgePieces, judgeInterval}
+use Rattle.field.specs.Field.{storedGuard, storedApplication, storedReference, fieldBytes, dataOf, fieldOf}
+use Rattle.interval.specs.Interval.{escapes, anyEscapes, guardWrong, applicationWrong, referenceWrong, judgePieces, judgeInterval}
 use Rattle.judge.specs.FirstOf.{firstOf}
 use Rattle.judge.specs.Judge.{judgeIntervals, judgeBlock, judgeBlocks}
-use Rattle.insertion.specs.Insertion.{fieldBytes, withField, storedBlock, storedBlocks}
+use Rattle.insertion.specs.Insertion.{withField, storedBlock, storedBlocks}
 use Rattle.refusal.specs.Refusal.{typeRules, codeRule, checkRule, rangeRule, movedOf, sizeRule, bufferOf, bufferRule, refusal}
 use Rattle.admission.specs.Admission.{admitted}
-use Rattle.checks.specs.Checks.{columnsOf, applicationKnown, referenceKnown, firstTag, rulesOf, startOf}
-use Rattle.checks.specs.Inserted.{insertedApplication, insertedReference, marksOf}
+use Rattle.rules.specs.Rules.{columnsOf, applicationKnown, referenceKnown, firstTag, rulesOf, startOf}
+use Rattle.rules.specs.Inserted.{insertedApplication, insertedReference, marksOf}
 use Rattle.transfer.specs.Transfer.{offsetOf, spanOf, blocksOf, whole, judgedIn, handed, received}
 use Rattle.execute.specs.Execute.{judged, overwritten, performed, executed}
 use Rattle.parity.specs.Parity.{xorParts, parityOf}

@@ -3,6 +3,10 @@
 -- Assumes nothing.
 use mathlib.Core.Path.{_≡_, sym, _∙_}
 use Rattle.command.proofs.decode.Reads as decode-reads
+use Rattle.command.proofs.sixteen.Reads as sixteen-reads
 
 pub decode : (κs : _) (a : _) (x y : _) (s t : _) → decode-reads.Post κs a x s → decode-reads.Post κs a y t → x ≡ y
 decode κs a x y s t p q = p ∙ sym q
+
+pub sixteen : (κs : _) (a : _) (x y : _) (s t : _) → sixteen-reads.Post κs a x s → sixteen-reads.Post κs a y t → x ≡ y
+sixteen κs a x y s t p q = p ∙ sym q

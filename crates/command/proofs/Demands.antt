@@ -1,9 +1,9 @@
--- "No other bit changes an answer."
+-- "No other bit changes an answer."; what a 16-byte command with code 001 asks.
 -- Assumes nothing.
 use mathlib.Core.Path.{_≡_, refl, sym, ap, _∙_}
-use mathlib.Core.Bool.{Bool, true, false, not, _&&_, cond}
+use mathlib.Core.Bool.{Bool, true, false, not, _&&_, cond, true≢false}
 use mathlib.Core.List.{List}
-use Prim.Native.Nat.{ℕ}
+use Prim.Native.Nat.{ℕ, _/_}
 use borrow.Author.Tests.{eqb-true}
 use lib.Dec.{eqb, ltb}
 use lib.ListN.{length, getD}
@@ -11,11 +11,14 @@ use Rattle.words.specs.BigEndian.{numberAt, number}
 use Rattle.answer.specs.declared.Reason.the-variants as reasons
 use Rattle.command.specs.declared.Operation.{Operation}
 use Rattle.command.specs.declared.Form.{Form}
+use Rattle.command.specs.declared.Form.the-variants.{Sixteen}
 use Rattle.command.specs.declared.Named.{Named}
 use Rattle.command.specs.declared.Named.the-variants.{Known, Unknown}
-use Rattle.command.specs.Command.{isLong, find, byteZero, serviceAction, recognise, fields, decodeAs, decode}
+use Rattle.command.specs.declared.Decoded.the-variants.{Served}
+use Rattle.command.specs.Command.{isLong, checkBits, find, byteZero, serviceAction, recognise, fields, decodeAs, decode}
 use Rattle.command.specs.Bits.{SameAt, SameColumns, SameCommand}
-use Rattle.command.proofs.Laws.{decode-known, decode-unknown}
+use Rattle.command.specs.Sixteen.{sixteen}
+use Rattle.command.proofs.Laws.{decode-served, decode-known, decode-unknown}
 
 same-number : (at n : ℕ) (c c′ : List ℕ) → SameAt at n c c′ → numberAt at n c ≡ numberAt at n c′
 unfolding numberAt
@@ -89,3 +92,14 @@ same-command c c′ s = by (recognise c) refl
     by : (x : Named) → recognise c ≡ x → decode c ≡ decode c′
     by (Known o f) k = no-other-bit c c′ o f k (sym alike ∙ k) (s .columns o f k)
     by (Unknown a) k = decode-unknown c k ∙ sym (decode-unknown c′ (sym alike ∙ k))
+
+-- the bytes of a 16-byte command with code 001 and byte-check bits 0 are decoded to `sixteen` of its operation, address and length
+module _ (c : List ℕ) (o : Operation) (a n : ℕ) (code : getD c 1 0 / 32 ≡ 0b001) (check : checkBits o (getD c 1 0) ≡ 0)
+    (address : numberAt 2 8 c ≡ a) (blocks : numberAt 10 4 c ≡ n) where
+  sixteen-fields : fields o Sixteen c ≡ sixteen o a n
+  unfolding fields sixteen
+  sixteen-fields = rw (code, check, address, blocks) refl
+
+  pub sixteen-decoded : recognise c ≡ Known o Sixteen → length c ≡ 16 → decode c ≡ Served (sixteen o a n)
+  sixteen-decoded e long =
+      decode-known c e ∙ decode-served o Sixteen c long (λ l. absurd (true≢false (sym l))) ∙ ap Served sixteen-fields

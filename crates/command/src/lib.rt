@@ -2,6 +2,7 @@
 ghost use mathlib.Core.Path.{_≡_};
 ghost use lib.ListN.{length};
 ghost use Rattle.command.specs.Command.{checkBits, recognise, layoutOf, isLong, fields, decodeAs, decode};
+ghost use Rattle.command.specs.Sixteen.{sixteen};
 use answer::Reason;
 
 pub enum Operation {
@@ -209,5 +210,22 @@ pub fn decode(c: &[u8]) -> Decoded
     match recognise(c) {
         Named::Known(o, f) => decode_as(o, f, c),
         Named::Unknown(r) => Decoded::Refused(r),
+    }
+}
+
+// What a 16-byte command with code 001 asks of `length` blocks from `address` on.
+pub fn sixteen(o: Operation, address: u64, length: u64) -> Command
+    ensures { λ c. ⌜ c ≡ sixteen o address length ⌝ }
+{
+    Command {
+        operation: o,
+        long: false,
+        code: 0b001,
+        check: 0,
+        address: address,
+        length: length,
+        tag: 0,
+        application: 0,
+        mask: 0,
     }
 }

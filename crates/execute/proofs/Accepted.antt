@@ -10,7 +10,7 @@ use borrow.Author.Tests.{eqb-true}
 use lib.Bits.{bitAnd}
 use lib.Dec.{eqb, lit<}
 use lib.ListN.{length, take, drop, length-drop}
-use lib.Seq.{take-at, drop-at}
+use lib.Seq.{drop-at}
 use Rattle.words.proofs.Choice.{never, unwrong}
 use Rattle.words.specs.Runs.{runs}
 use Rattle.answer.specs.declared.Answer.{Answer}
@@ -22,17 +22,21 @@ use Rattle.command.specs.declared.Operation.the-variants.{Write}
 use Rattle.interval.specs.declared.Rules.{Rules}
 use Rattle.interval.specs.declared.Place.{Place}
 use Rattle.interval.specs.declared.Escape.the-variants.{Never}
-use Rattle.interval.specs.Interval.{storedGuard, storedApplication, storedReference, escapes, dataOf, fieldOf, anyEscapes, guardWrong, applicationWrong, referenceWrong, judgePieces, judgeInterval}
+use Rattle.guard.specs.Guard.{guard}
+use Rattle.guard.proofs.Laws.{guard-lt}
+use Rattle.field.specs.Field.{fieldBytes, dataOf}
+use Rattle.field.proofs.Demands.{guard-read-back, application-read-back, reference-read-back}
+use Rattle.interval.specs.Interval.{escapes, anyEscapes, guardWrong, applicationWrong, referenceWrong, judgePieces, judgeInterval}
 use Rattle.interval.proofs.PieceLaws.{pieces-verdict}
 use Rattle.interval.proofs.IntervalLaws.{any-none}
 use Rattle.judge.specs.FirstOf.{firstOf}
 use Rattle.judge.specs.Judge.{judgeIntervals, judgeBlock, judgeBlocks, nextInterval, nextBlock}
 use Rattle.insertion.specs.declared.Marks.{Marks}
-use Rattle.insertion.specs.Insertion.{fieldBytes, withField, later, storedBlock, storedBlocks}
-use Rattle.insertion.proofs.Laws.{field-length, interval-length, block-length, interval-read-on, interval-field-on, guard-there, application-there, reference-there}
-use Rattle.checks.specs.Checks.{columnsOf, applicationKnown, referenceKnown, firstTag, escapeOf, rulesOf, startOf}
-use Rattle.checks.specs.Inserted.{insertedApplication, insertedReference, marksOf}
-use Rattle.checks.specs.Intervals.{intervalAt, placeAt, skipped, verdictAt}
+use Rattle.insertion.specs.Insertion.{withField, later, storedBlock, storedBlocks}
+use Rattle.insertion.proofs.Laws.{interval-length, block-length, interval-read-on, interval-field-on}
+use Rattle.rules.specs.Rules.{columnsOf, applicationKnown, referenceKnown, firstTag, escapeOf, rulesOf, startOf}
+use Rattle.rules.specs.Inserted.{insertedApplication, insertedReference, marksOf}
+use Rattle.rules.specs.Intervals.{intervalAt, placeAt, skipped, verdictAt}
 use Rattle.execute.specs.Compared.{asRead}
 use Rattle.execute.proofs.Wrong.{blocks-good}
 
@@ -60,22 +64,21 @@ record Fit (r : Rules) (p : Place) (m : Marks) : Type 0 where
   four-bytes : m .reference < 2 ^ 32
 
 module _ (r : Rules) where
-  field-right : (p : Place) (m : Marks) (d : List ℕ) → Fit r p m → judgePieces r p d (fieldBytes m d) ≡ answers.Good
-  unfolding guardWrong applicationWrong referenceWrong storedGuard storedApplication storedReference
+  field-right : (p : Place) (m : Marks) (d : List ℕ) → Fit r p m → judgePieces r p d (fieldBytes (guard d) (m .application) (m .reference)) ≡ answers.Good
+  unfolding guardWrong applicationWrong referenceWrong
   field-right p m d f =
-      pieces-verdict r p d (fieldBytes m d) .good .1 (
-        unwrong (r .guard) _ _ (λ o. guard-there m d),
-        unwrong (r .application) _ _ (λ o. ap (λ (x : ℕ). bitAnd x (r .mask)) (application-there m d (f .two-bytes) ∙ f .application o)),
-        unwrong (r .reference) _ _ (λ o. reference-there m d (f .four-bytes) ∙ f .reference o .0),
+      pieces-verdict r p d _ .good .1 (
+        unwrong (r .guard) _ _ (λ o. guard-read-back (guard d) _ _ (guard-lt d)),
+        unwrong (r .application) _ _ (λ o. ap (λ (x : ℕ). bitAnd x (r .mask)) (application-read-back _ (m .application) _ (f .two-bytes) ∙ f .application o)),
+        unwrong (r .reference) _ _ (λ o. reference-read-back _ _ (m .reference) (f .four-bytes) ∙ f .reference o .0),
       )
 
   interval-right : (p : Place) (m : Marks) (s rest : List ℕ) → Fit r p m → r .size ≤ length s → judgeInterval r p (withField (r .size) m s ++ rest) ≡ answers.Good
-  unfolding judgeInterval dataOf fieldOf
+  unfolding judgeInterval dataOf
   interval-right p m s rest f h =
-      let d = take (r .size) s in
       ap₂ (judgePieces r p) (interval-read-on (r .size) m s rest h)
-      (ap (take 8) (interval-field-on (r .size) m s rest h) ∙ take-at (fieldBytes m d) rest 8 (field-length m d))
-      ∙ field-right p m d f
+      (interval-field-on (r .size) m s rest h)
+      ∙ field-right p m (take (r .size) s) f
 
   fit-later : (k a i : ℕ) (p : Place) (m : Marks) → Fit r p m → Fit r (record { address = a; interval = i; tag = (p .tag + k) % 2 ^ 32 }) (later k m)
   fit-later k a i p m f =

@@ -28,14 +28,15 @@ use Rattle.command.specs.declared.Operation.{Operation}
 use Rattle.command.specs.declared.Operation.the-variants.{Read, Write, Verify}
 use Rattle.command.proofs.Laws.{Bounded, served-bounded}
 use Rattle.command.proofs.Demands.{same-command}
-use Rattle.interval.specs.Interval.{dataOf, fieldOf, guardWrong, applicationWrong, referenceWrong, judgeInterval}
+use Rattle.field.specs.Field.{dataOf, fieldOf}
+use Rattle.interval.specs.Interval.{guardWrong, applicationWrong, referenceWrong, judgeInterval}
 use Rattle.interval.specs.Verdict.{Verdict}
 use Rattle.judge.specs.FirstOf.{firstOf}
 use Rattle.judge.specs.Judge.{judgeBlocks}
-use Rattle.judge.proofs.FirstLaws.{good-or}
-use Rattle.checks.specs.Checks.{rulesOf, startOf, firstTag}
-use Rattle.checks.specs.Intervals.{intervalAt, placeAt, verdictAt}
-use Rattle.checks.proofs.Places.{tag-small}
+use Rattle.answer.proofs.Ladder.{good-or}
+use Rattle.rules.specs.Rules.{rulesOf, startOf, firstTag}
+use Rattle.rules.specs.Intervals.{intervalAt, placeAt, verdictAt}
+use Rattle.rules.proofs.Places.{tag-small}
 use Rattle.refusal.specs.Refusal.{typeRules, codeRule, checkRule, rangeRule, sizeRule, isVerify, movedOf, bufferOf, bufferRule, refusal}
 use Rattle.admission.specs.declared.Admitted.{Admitted}
 use Rattle.admission.specs.declared.Admitted.the-variants.{Refused, Go}

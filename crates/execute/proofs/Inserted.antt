@@ -10,7 +10,7 @@ use native.Mathlib.Omega.{arith}
 use borrow.Author.Tests.{eqb-true, eqb-false}
 use lib.Dec.{eqb, lit<}
 use lib.ListN.{length, take, drop, length-drop}
-use lib.Seq.{take-at, drop-at}
+use lib.Seq.{drop-at}
 use Rattle.words.specs.Parts.{Bytes}
 use Rattle.words.specs.Runs.{runs}
 use Rattle.guard.specs.Guard.{guard}
@@ -24,16 +24,18 @@ use Rattle.command.specs.declared.Command.{Command}
 use Rattle.command.specs.declared.Decoded.the-variants.{Served}
 use Rattle.command.specs.declared.Operation.the-variants.{Write}
 use Rattle.command.proofs.Laws.{Bounded, served-bounded}
-use Rattle.interval.specs.Interval.{storedGuard, storedApplication, storedReference, dataOf, fieldOf}
-use Rattle.interval.proofs.TurnLaws.{after}
+use Rattle.guard.proofs.Laws.{guard-lt}
+use Rattle.field.specs.Field.{storedGuard, storedApplication, storedReference, fieldBytes, dataOf, fieldOf}
+use Rattle.field.proofs.Demands.{guard-read-back, application-read-back, reference-read-back}
+use Rattle.words.proofs.Turns.{after}
 use Rattle.insertion.specs.declared.Marks.{Marks}
-use Rattle.insertion.specs.Insertion.{fieldBytes, withField, later, storedBlock, storedBlocks}
-use Rattle.insertion.proofs.Laws.{field-length, interval-length, block-length, interval-read-on, interval-field-on, guard-there, application-there, reference-there}
+use Rattle.insertion.specs.Insertion.{withField, later, storedBlock, storedBlocks}
+use Rattle.insertion.proofs.Laws.{interval-length, block-length, interval-read-on, interval-field-on}
 use Rattle.blocks.proofs.Pieces.{one-within, rest-within}
 use Rattle.words.proofs.Parts.{one-more, drop-more}
-use Rattle.checks.specs.Checks.{firstTag}
-use Rattle.checks.specs.Inserted.{insertedReference, marksOf}
-use Rattle.checks.specs.Intervals.{intervalAt}
+use Rattle.rules.specs.Rules.{firstTag}
+use Rattle.rules.specs.Inserted.{insertedReference, marksOf}
+use Rattle.rules.specs.Intervals.{intervalAt}
 use Rattle.admission.specs.Ready.{Ready}
 use Rattle.transfer.specs.Transfer.{blocksOf, received}
 use Rattle.execute.specs.Execute.{executed}
@@ -117,11 +119,8 @@ module _ (size : ℕ) (m : Marks) (s behind here : List ℕ) (long : size ≤ le
   unfolding dataOf
   data-there = ap (take size) e ∙ interval-read-on size m s behind long
 
-  field-there : fieldOf size here ≡ fieldBytes m (take size s)
-  unfolding fieldOf
-  field-there =
-      ap (λ (x : List ℕ). take 8 (drop size x)) e ∙ ap (take 8) (interval-field-on size m s behind long)
-      ∙ take-at (fieldBytes m (take size s)) behind 8 (field-length m (take size s))
+  field-there : fieldOf size here ≡ fieldBytes (guard (take size s)) (m .application) (m .reference)
+  field-there = ap (fieldOf size) e ∙ interval-field-on size m s behind long
 
 -- ---- the reference by the document's sentence
 one-two-three : (k : ℕ) → k ≤ 3 → (k ≡ 0 → ⊥) → (k ≡ 1) ⊎ ((k ≡ 2) ⊎ (k ≡ 3))
@@ -159,7 +158,7 @@ module _ (d : Description) (segment command buffer : List ℕ) (c : Command) (by
 
   -- of each interval of the transfer
   pub inserted-fields : (j i : ℕ) → j < c .length → i < intervalsOf d → InsertedAt d c (blocksOf d c (executed d segment command buffer .segment)) buffer j i
-  unfolding storedGuard storedApplication storedReference marksOf
+  unfolding marksOf
   inserted-fields j i h l =
       let size = sizeOf d in
       let n = intervalsOf d in
@@ -177,10 +176,10 @@ module _ (d : Description) (segment command buffer : List ℕ) (c : Command) (by
       ap (λ (b : ℕ). take size (drop (i * size) (drop (j * b) buffer))) (sizes d (stored .0 .described) .whole) in
       record {
         user = data-there size m source (found .0) _ long here ∙ same;
-        guarded = ap storedGuard field ∙ guard-there m (take size source) ∙ ap guard same;
+        guarded = ap storedGuard field ∙ guard-read-back _ _ _ (guard-lt (take size source)) ∙ ap guard same;
         application =
-            ap storedApplication field ∙ application-there m (take size source) (small-application d c (bounded .application) (bounded .tag));
+            ap storedApplication field ∙ application-read-back _ _ _ (small-application d c (bounded .application) (bounded .tag));
         reference =
-            ap storedReference field ∙ reference-there m (take size source) (mod-lt (marksOf d c .reference + (j * n + i) * marksOf d c .step) (lit< tt))
+            ap storedReference field ∙ reference-read-back _ _ _ (mod-lt (marksOf d c .reference + (j * n + i) * marksOf d c .step) (lit< tt))
             ∙ reference-is j i;
       }

@@ -25,8 +25,8 @@ use Rattle.command.specs.declared.Operation.the-variants.{Read, Write, Verify}
 use Rattle.judge.specs.FirstOf.{firstOf}
 use Rattle.judge.specs.Judge.{judgeBlocks}
 use Rattle.blocks.specs.Blocks.{stripped}
-use Rattle.checks.specs.Checks.{rulesOf, startOf}
-use Rattle.checks.specs.Intervals.{verdictAt}
+use Rattle.rules.specs.Rules.{rulesOf, startOf}
+use Rattle.rules.specs.Intervals.{verdictAt}
 use Rattle.refusal.specs.Refusal.{isVerify, movedOf}
 use Rattle.refusal.proofs.Rules.{room-moved}
 use Rattle.admission.specs.declared.Admitted.the-variants.{Go}

@@ -1,87 +1,95 @@
 -- From what an admitted command's parts did to the command's outcome.
 -- Assumes nothing.
-use mathlib.Core.Path.{_≡_, sym, ap, ap₂, _∙_}
-use mathlib.Core.Bool.{false}
+use mathlib.Core.Path.{_≡_, refl, sym, ap, ap₂, _∙_}
+use mathlib.Core.Bool.{Bool, true, false, not, cond}
 use mathlib.Core.List.{List}
 use Prim.Native.Nat.{ℕ, _+_, _-_, _^_, _≤_}
 use native.Mathlib.Omega.{arith}
+use borrow.Author.Tests.{eqb-false, not-true, not-false}
+use lib.Dec.{eqb}
 use lib.ListN.{length, take, drop}
-use Rattle.words.specs.Parts.{put}
 use Rattle.words.proofs.BigEndian.{part-length}
+use Rattle.words.proofs.Choice.{never}
+use Rattle.answer.specs.Answer.{isGood, orElse}
+use Rattle.answer.specs.Outcome.{outcome}
 use Rattle.answer.specs.declared.Answer.{Answer}
 use Rattle.segment.specs.declared.Description.{Description}
 use Rattle.segment.specs.Segment.{Segment}
+use Rattle.segment.specs.Places.{offsetOf, spanOf, blocksFrom}
+use Rattle.segment.proofs.Places.{span-within}
 use Rattle.command.specs.declared.Command.{Command}
 use Rattle.command.specs.declared.Operation.{Operation}
 use Rattle.command.specs.declared.Operation.the-variants.{Read, Write, Verify}
+use Rattle.refusal.specs.declared.Lengths.{Lengths}
 use Rattle.refusal.specs.Refusal.{isVerify}
 use Rattle.refusal.proofs.Rules.{room-moved}
+use Rattle.rules.specs.declared.Side.the-variants.{Sent, Stored}
+use Rattle.rules.specs.Sides.{checksOn}
+use Rattle.rules.proofs.Laws.{checks-all}
 use Rattle.admission.specs.declared.Admitted.the-variants.{Refused, Go}
 use Rattle.admission.specs.Admission.{admitted}
 use Rattle.admission.specs.Ready.{Ready}
-use Rattle.transfer.specs.Transfer.{keep, offsetOf, spanOf, blocksOf, judgedIn, handed, received}
-use Rattle.execute.specs.Execute.{outcome, judgedFor, judged, overwritten, performedFor, performed, executed}
-use Rattle.transfer.specs.Inner.{Shaped, Placed, Fitted, ReadDone, WriteDone}
-use Rattle.execute.proofs.Spans.{span-within}
+use Rattle.transfer.specs.Lent.{Lent, lent, lengthsOf}
+use Rattle.transfer.specs.Transfer.{blocksOf, judgedOn, judged, handed, received, overwritten, movedFor, performed}
+use Rattle.transfer.specs.Inner.{Shaped, Sided, Fitted}
+use Rattle.transfer.proofs.Shapes.{moved-span}
+use Rattle.execute.specs.Execute.{executed}
 
 -- ---- what admission settled
-module _ {d : Description} {c : Command} {s b : ℕ} (r : Ready d c s b) where
+module _ {d : Description} {c : Command} {l : Lengths} (r : Ready d c l) where
   pub short : c .length ≤ 65536
   short = omega (arith, r .from, r .to, r .described .count)
 
   pub located : (Segment d) × (d .first ≤ c .address) × (c .address ≤ d .first + d .count)
   located = (r .described, r .from, omega (arith, r .to))
 
-  ended : c .address + c .length ≤ 2 ^ 63
-  ended = omega (arith, r .to, r .described .end)
+  pub shaped : Shaped d c
+  shaped = record { described = r .described; few = short; end = omega (arith, r .to, r .described .end) }
 
-  pub within : (at w : ℕ) → at ≡ offsetOf d c → w ≡ spanOf d c → at + w ≤ s
-  within at w e f = rw (e, f) (span-within d c s b r)
+  pub within : (at w : ℕ) → at ≡ offsetOf d (c .address) → w ≡ spanOf d (c .length) → at + w ≤ l .segment
+  within at w e f = rw (e, f) (span-within d (c .address) (c .length) (l .segment) (r .whole) (r .from) (r .to))
 
-  pub placed : (at : ℕ) → at ≡ offsetOf d c → Placed d c at s
-  placed at e = record { described = r .described; few = short; end = ended; fits = rw e (span-within d c s b r) }
+  -- what is sent is whole blocks where it is checked, and the part of the segment always is
+  pub sent : Sided Sent d c (l .buffer)
+  sent n = by (c .operation) refl (checks-all Sent d c n .checks)
+    where
+      by : (o : Operation) → c .operation ≡ o → checksOn Sent o c ≡ true → l .buffer ≡ spanOf d (c .length)
+      by Read e x = never x
+      by Write e x = r .room ∙ room-moved d c (ap isVerify e) ∙ moved-span d c (r .described) (eqb-false (c .code) 0 (not-true _ x))
+      by Verify e x = never x
 
-  pub shaped : (at w : ℕ) (segment : List ℕ) → length segment ≡ s → at ≡ offsetOf d c → w ≡ spanOf d c → Shaped d c (length (take (at + w - at) (drop at segment)))
-  shaped at w segment l e f =
-      record { described = r .described; few = short; end = ended; long = part-length at w segment (rw l (within at w e f)) ∙ f }
+  pub part : (at w : ℕ) (segment : List ℕ) → length segment ≡ l .segment → at ≡ offsetOf d (c .address) → w ≡ spanOf d (c .length)
+      → length (take (at + w - at) (drop at segment)) ≡ spanOf d (c .length)
+  part at w segment m e f = part-length at w segment (rw m (within at w e f)) ∙ f
 
-  pub fitted : isVerify (c .operation) ≡ false → Fitted d c b
+  pub fitted : isVerify (c .operation) ≡ false → Fitted d c (l .buffer)
   fitted v = record { room = r .room ∙ room-moved d c v; plain = r .plain }
 
 -- the part of the segment that is handed on is the transfer's blocks
-pub blocks-are : (d : Description) (c : Command) (at w : ℕ) (segment : List ℕ) → at ≡ offsetOf d c → w ≡ spanOf d c → take (at + w - at) (drop at segment) ≡ blocksOf d c segment
-unfolding blocksOf
+pub blocks-are : (d : Description) (c : Command) (at w : ℕ) (segment : List ℕ) → at ≡ offsetOf d (c .address) → w ≡ spanOf d (c .length)
+    → take (at + w - at) (drop at segment) ≡ blocksOf d c segment
+unfolding blocksOf blocksFrom
 blocks-are d c at w segment e f = let same : at + w - at ≡ w = omega arith in rw (same, e, f)
 
--- ---- by the operation
-module _ (d : Description) (c : Command) (segment buffer : List ℕ) where
-  by-operation : (o : Operation) → c .operation ≡ o → performed d c segment buffer ≡ performedFor o (judgedFor o d c segment buffer) d c segment buffer
-  unfolding performed judged
-  by-operation o e = ap (λ (x : Operation). performedFor x (judgedFor x d c segment buffer) d c segment buffer) e
+-- ---- judged, and by the operation
+module _ (d : Description) (c : Command) (segment buffer stored : List ℕ) (a : Answer) (g : Bool) (s : stored ≡ blocksOf d c segment)
+    (e : a ≡ orElse (judgedOn Sent d c buffer) (judgedOn Stored d c stored)) (t : g ≡ isGood a) where
+  judged-is : a ≡ judged d c (lent segment buffer)
+  unfolding judged
+  judged-is = e ∙ ap (λ (x : List ℕ). orElse (judgedOn Sent d c buffer) (judgedOn Stored d c x)) s
 
-  pub read-outcome : (s left : List ℕ) (a : Answer) → c .operation ≡ Read → s ≡ blocksOf d c segment → ReadDone d c s buffer a left → outcome a segment left ≡ performed d c segment buffer
-  read-outcome s left a o e h =
-      let j : a ≡ judgedIn d c (blocksOf d c segment) = h .answer ∙ ap (judgedIn d c) e in
-      ap₂ (λ (x : Answer) (y : List ℕ). outcome x segment y) j
-      (h .lent ∙ ap₂ (λ (x : Answer) (y : List ℕ). keep x buffer (handed d c y)) j e)
-      ∙ sym (by-operation Read o)
+  pub refused-performed : not g ≡ true → outcome a (lent segment buffer) ≡ performed d c (lent segment buffer)
+  unfolding performed
+  refused-performed n = rw (← judged-is, sym t ∙ not-true g n)
 
-  pub write-outcome : (at : ℕ) (left : List ℕ) (a : Answer) → c .operation ≡ Write → at ≡ offsetOf d c → WriteDone d c at segment buffer a left → outcome a left buffer ≡ performed d c segment buffer
-  unfolding overwritten
-  write-outcome at left a o e h =
-      ap₂ (λ (x : Answer) (y : List ℕ). outcome x y buffer) (h .answer)
-      (h .lent ∙ ap₂ (λ (x : Answer) (y : ℕ). keep x segment (put y (received d c buffer) segment)) (h .answer) e)
-      ∙ sym (by-operation Write o)
+  good-performed : not g ≡ false → (o : Operation) → c .operation ≡ o → (left : Lent) → left ≡ movedFor o d c (lent segment buffer)
+      → outcome a left ≡ performed d c (lent segment buffer)
+  unfolding performed
+  good-performed n o f left m = rw (← judged-is, sym t ∙ not-false g n, f) (ap (outcome a) m)
 
-  pub verify-outcome : (s : List ℕ) (a : Answer) → c .operation ≡ Verify → s ≡ blocksOf d c segment → a ≡ judgedIn d c s → outcome a segment buffer ≡ performed d c segment buffer
-  verify-outcome s a o e j = ap (λ (x : Answer). outcome x segment buffer) (j ∙ ap (judgedIn d c) e) ∙ sym (by-operation Verify o)
+  pub read-performed : not g ≡ false → c .operation ≡ Read → (left : List ℕ) → left ≡ handed d c stored
+      → outcome a (lent segment left) ≡ performed d c (lent segment buffer)
+  read-performed n o left m = good-performed n Read o _ (ap (lent segment) (m ∙ ap (handed d c) s))
 
--- ---- by what admission decided
-module _ (d : Description) (segment command buffer : List ℕ) where
-  pub refused-outcome : (a : Answer) → admitted d (length segment) command (length buffer) ≡ Refused a → outcome a segment buffer ≡ executed d segment command buffer
-  unfolding executed
-  refused-outcome a e = rw e
-
-  pub went-outcome : (c : Command) (a : Answer) (s b : List ℕ) → admitted d (length segment) command (length buffer) ≡ Go c → outcome a s b ≡ performed d c segment buffer → outcome a s b ≡ executed d segment command buffer
-  unfolding executed
-  went-outcome c a s b e h = h ∙ rw e
+  pub verify-performed : not g ≡ false → c .operation ≡ Verify → outcome a (lent segment buffer) ≡ performed d c (lent segment buffer)
+  verify-performed n o = good-performed n Verify o _ refl

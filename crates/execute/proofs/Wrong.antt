@@ -16,15 +16,17 @@ use Rattle.command.specs.declared.Command.{Command}
 use Rattle.interval.specs.declared.Rules.{Rules}
 use Rattle.interval.specs.declared.Place.{Place}
 use Rattle.interval.specs.Verdict.{Verdict}
-use Rattle.interval.specs.Interval.{dataOf, fieldOf, guardWrong, applicationWrong, referenceWrong, judgePieces, judgeInterval}
-use Rattle.interval.proofs.TurnLaws.{after, pieceAt}
+use Rattle.field.specs.Field.{dataOf, fieldOf}
+use Rattle.interval.specs.Interval.{guardWrong, applicationWrong, referenceWrong, judgePieces, judgeInterval}
+use Rattle.words.proofs.Turns.{after, pieceAt}
 use Rattle.interval.proofs.PieceLaws.{pieces-verdict}
 use Rattle.judge.specs.FirstOf.{firstOf}
 use Rattle.judge.specs.Judge.{judgeIntervals, judgeBlock, judgeBlocks, nextInterval, nextBlock}
-use Rattle.judge.proofs.FirstLaws.{first-good, first-found, FirstWrong, not-both}
-use Rattle.checks.specs.Checks.{rulesOf, startOf, firstTag}
-use Rattle.checks.specs.Intervals.{blockAt, intervalAt, placeAt, skipped, verdictAt}
-use Rattle.checks.proofs.Places.{place-is}
+use Rattle.answer.proofs.Ladder.{not-both}
+use Rattle.judge.proofs.FirstLaws.{first-good, first-found, FirstWrong}
+use Rattle.rules.specs.Rules.{rulesOf, startOf, firstTag}
+use Rattle.rules.specs.Intervals.{blockAt, intervalAt, placeAt, skipped, verdictAt}
+use Rattle.rules.proofs.Places.{place-is}
 use Rattle.execute.specs.Checked.{Names, FirstWrongInterval}
 
 -- ---- one interval

@@ -5,24 +5,25 @@ use mathlib.Core.Bool.{true}
 use mathlib.Core.List.{List}
 use lib.ListN.{length, take, drop}
 use Rattle.answer.specs.Answer.{isGood}
+use Rattle.answer.specs.Outcome.{Outcome}
 use Rattle.segment.specs.declared.Description.{Description}
+use Rattle.segment.specs.Places.{offsetOf, spanOf}
 use Rattle.command.specs.declared.Command.{Command}
 use Rattle.command.specs.declared.Operation.the-variants.{Read}
-use Rattle.transfer.specs.Transfer.{offsetOf, spanOf}
-use Rattle.execute.specs.Execute.{Outcome}
+use Rattle.transfer.specs.Lent.{Lent}
 
 -- "the transfer's own blocks of the segment are overwritten and no other": the bytes before and behind them are the old
 -- ones, and there are as many in all
 pub record Beside (d : Description) (c : Command) (old new : List ℕ) : Type 0 where
-  pub before : take (offsetOf d c) new ≡ take (offsetOf d c) old
-  pub behind : drop (offsetOf d c + spanOf d c) new ≡ drop (offsetOf d c + spanOf d c) old
+  pub before : take (offsetOf d (c .address)) new ≡ take (offsetOf d (c .address)) old
+  pub behind : drop (offsetOf d (c .address) + spanOf d (c .length)) new ≡ drop (offsetOf d (c .address) + spanOf d (c .length)) old
   pub long : length new ≡ length old
 
 -- "The answer of a READ or VERIFY depends on the description, the command, the lengths and the transfer's blocks, on no other
 -- block.": one answer, and what a good READ hands out
-pub record Alike (c : Command) (x y : Outcome) : Type 0 where
+pub record Alike (c : Command) (x y : Outcome Lent) : Type 0 where
   pub answer : x .answer ≡ y .answer
-  pub filled : c .operation ≡ Read → isGood (x .answer) ≡ true → x .buffer ≡ y .buffer
+  pub filled : c .operation ≡ Read → isGood (x .answer) ≡ true → x .left .buffer ≡ y .left .buffer
 
 -- "READ after a good WRITE gives back what was written": the READ that asks as a command asks
 abbrev pub asRead : Command → Command

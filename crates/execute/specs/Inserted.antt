@@ -8,10 +8,11 @@ use lib.ListN.{take, drop}
 use Rattle.guard.specs.Guard.{guard}
 use Rattle.segment.specs.declared.Description.{Description}
 use Rattle.segment.specs.Segment.{intervalsOf, sizeOf}
+use Rattle.segment.specs.Places.{intervalAt}
 use Rattle.command.specs.declared.Command.{Command}
-use Rattle.interval.specs.Interval.{storedGuard, storedApplication, storedReference, dataOf, fieldOf}
-use Rattle.checks.specs.Inserted.{insertedApplication}
-use Rattle.checks.specs.Intervals.{intervalAt, placeAt}
+use Rattle.field.specs.Field.{storedGuard, storedApplication, storedReference, dataOf, fieldOf}
+use Rattle.rules.specs.Inserted.{insertedApplication}
+use Rattle.rules.specs.Intervals.{placeAt}
 
 -- "reference as expected above, except type 2 with 10, 12 or 16 bytes, where it is (address of the block × n + interval in the
 -- block) modulo 2^32, and type 3, where it is 0": of interval i in block j of the transfer

@@ -22,13 +22,14 @@ use Rattle.command.specs.declared.Operation.{Operation}
 use Rattle.command.specs.declared.Operation.the-variants.{Read, Write, Verify}
 use Rattle.interval.specs.declared.Escape.{Escape}
 use Rattle.interval.specs.declared.Escape.the-variants.{Tag, Both}
-use Rattle.interval.specs.Interval.{storedApplication, storedReference, escapes, fieldOf, anyEscapes}
+use Rattle.field.specs.Field.{storedApplication, storedReference, fieldOf}
+use Rattle.interval.specs.Interval.{escapes, anyEscapes}
 use Rattle.judge.specs.Judge.{judgeBlock, judgeBlocks, nextBlock}
 use Rattle.judge.proofs.FirstLaws.{first-good}
 use Rattle.judge.proofs.BlockLaws.{block-escaped}
 use Rattle.blocks.specs.Blocks.{stripped}
-use Rattle.checks.specs.Checks.{escapeOf, rulesOf, startOf}
-use Rattle.checks.specs.Intervals.{intervalAt, skipped}
+use Rattle.rules.specs.Rules.{escapeOf, rulesOf, startOf}
+use Rattle.rules.specs.Intervals.{intervalAt, skipped}
 use Rattle.filling.specs.Fresh.{freshIntervals, filledOf}
 use Rattle.refusal.specs.Refusal.{isVerify, movedOf, bufferOf, refusal}
 use Rattle.refusal.proofs.Rules.{inside, moved-plain, moved-whole, moved-most, size-fits, room-moved, buffer-fits, check-zero}

@@ -8,7 +8,7 @@ use native.Mathlib.Omega.{arith}
 use lib.ListN.{length, take, drop, replicate, length-append, length-replicate, replicate-append-replicate}
 use lib.Seq.{drop-drop, take-at, drop-at, take-append-add}
 use Rattle.words.specs.Runs.{runs}
-use Rattle.interval.specs.Interval.{fieldOf}
+use Rattle.field.specs.Field.{fieldOf}
 use Rattle.blocks.specs.Blocks.{stripped}
 use Rattle.filling.specs.Fresh.{freshInterval, freshIntervals}
 

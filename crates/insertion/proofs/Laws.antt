@@ -1,22 +1,20 @@
 -- The laws of stored blocks: their lengths, their bytes, and that what was stored reads back. Each follows from the same law of pieces.
 -- Assumes nothing.
-use mathlib.Core.Path.{_≡_, refl, ap, ap₂, _∙_}
-use mathlib.Core.List.{List, [], _++_, append-nil, append-assoc}
-use Prim.Native.Nat.{ℕ, _+_, _*_, _%_, _^_, _<_, _≤_}
-use lib.ListN.{length, take, drop, length-append}
-use lib.Seq.{take-append-le, take-at, drop-at, length-take-le}
-use Rattle.words.specs.BigEndian.{numberAt, bytes}
+use mathlib.Core.Path.{_≡_, ap, ap₂, _∙_}
+use mathlib.Core.List.{List, [], _++_, append-nil}
+use Prim.Native.Nat.{ℕ, _+_, _*_, _%_, _^_, _≤_}
+use lib.ListN.{length, take, length-append}
+use lib.Seq.{take-append-le, length-take-le}
 use Rattle.words.specs.Parts.{Bytes}
 use Rattle.words.specs.Runs.{runs}
-use Rattle.words.proofs.BigEndian.{bytes-length}
-use Rattle.words.proofs.Parts.{take-bytes}
+use Rattle.words.proofs.Parts.{take-bytes, append-bytes}
 use Rattle.guard.specs.Guard.{guard}
-use Rattle.guard.proofs.Laws.{guard-lt}
+use Rattle.field.specs.Field.{fieldBytes, dataOf, fieldOf}
+use Rattle.field.proofs.Laws.{data-laid, field-laid, field-length, field-bytes}
 use Rattle.blocks.specs.Blocks.{userData}
-use Rattle.blocks.proofs.Places.{append-bytes, bytes-bytes, number-there}
 use Rattle.blocks.proofs.Pieces.{runs-length, runs-bytes, runs-behind, runs-read, runs-lots}
 use Rattle.insertion.specs.declared.Marks.{Marks}
-use Rattle.insertion.specs.Insertion.{fieldBytes, withField, later, storedBlock, storedBlocks}
+use Rattle.insertion.specs.Insertion.{withField, later, storedBlock, storedBlocks}
 
 -- ---- the marks that the code counts on by a wrapping sum
 abbrev pub marks : ℕ → ℕ → ℕ → Marks
@@ -27,14 +25,10 @@ pub marks-later : (k by application reference step sum : ℕ) → by ≡ k * ste
 marks-later k by application reference step sum e w = ap (λ (r : ℕ). marks application r step) (w ∙ ap (λ (n : ℕ). (reference + n) % 2 ^ 32) e)
 
 -- ---- lengths
-pub field-length : (m : Marks) (d : List ℕ) → length (fieldBytes m d) ≡ 8
-unfolding fieldBytes
-field-length m d = simp (length-append, bytes-length)
-
 pub interval-length : (size : ℕ) (m : Marks) (s : List ℕ) → size ≤ length s → length (withField size m s) ≡ size + 8
 unfolding withField
 interval-length size m s h =
-    length-append (take size s) _ ∙ ap₂ (λ (x y : ℕ). x + y) (length-take-le size s h) (field-length m _)
+    length-append (take size s) _ ∙ ap₂ (λ (x y : ℕ). x + y) (length-take-le size s h) (field-length _ _ _)
 
 pub block-length : (size n : ℕ) (m : Marks) (s : List ℕ) → n * size ≤ length s → length (storedBlock size n m s) ≡ n * (size + 8)
 unfolding storedBlock
@@ -45,15 +39,9 @@ unfolding storedBlocks
 blocks-length size n k m s h = runs-length (storedBlock size n) (later n) (n * size) (n * (size + 8)) (block-length size n) k m s h
 
 -- ---- bytes
-pub field-bytes : (m : Marks) (d : List ℕ) → Bytes (fieldBytes m d)
-unfolding fieldBytes
-field-bytes m d =
-    append-bytes (bytes 2 (guard d)) _ (bytes-bytes 2 (guard d))
-    (append-bytes (bytes 2 (m .application)) _ (bytes-bytes 2 (m .application)) (bytes-bytes 4 (m .reference)))
-
 pub interval-bytes : (size : ℕ) (m : Marks) (s : List ℕ) → Bytes s → Bytes (withField size m s)
 unfolding withField
-interval-bytes size m s p = append-bytes (take size s) _ (take-bytes size s p) (field-bytes m _)
+interval-bytes size m s p = append-bytes (take size s) _ (take-bytes size s p) (field-bytes _ _ _)
 
 pub block-bytes : (size n : ℕ) (m : Marks) (s : List ℕ) → Bytes s → Bytes (storedBlock size n m s)
 unfolding storedBlock
@@ -66,7 +54,7 @@ blocks-bytes size n k m s p = runs-bytes (storedBlock size n) (later n) (n * siz
 -- ---- what lies behind the intervals' own bytes does not count
 pub interval-behind : (size : ℕ) (m : Marks) (s r : List ℕ) → size ≤ length s → withField size m (s ++ r) ≡ withField size m s
 unfolding withField
-interval-behind size m s r h = ap (λ (l : List ℕ). l ++ fieldBytes m l) (take-append-le size s r h)
+interval-behind size m s r h = ap (λ (l : List ℕ). l ++ fieldBytes (guard l) (m .application) (m .reference)) (take-append-le size s r h)
 
 pub block-behind : (size n : ℕ) (m : Marks) (s r : List ℕ) → n * size ≤ length s → storedBlock size n m (s ++ r) ≡ storedBlock size n m s
 unfolding storedBlock
@@ -79,16 +67,12 @@ blocks-behind size n k m s r h = runs-behind (storedBlock size n) (later n) (n *
 -- ---- what was stored reads back, also where the list goes on behind it
 module _ (size : ℕ) (m : Marks) (s r : List ℕ) (h : size ≤ length s) where
   pub interval-read-on : take size (withField size m s ++ r) ≡ take size s
-  unfolding withField
-  interval-read-on =
-      ap (take size) (append-assoc (take size s) (fieldBytes m (take size s)) r)
-      ∙ take-at (take size s) (fieldBytes m (take size s) ++ r) size (length-take-le size s h)
+  unfolding withField dataOf
+  interval-read-on = data-laid size (take size s) _ r (length-take-le size s h)
 
-  pub interval-field-on : drop size (withField size m s ++ r) ≡ fieldBytes m (take size s) ++ r
+  pub interval-field-on : fieldOf size (withField size m s ++ r) ≡ fieldBytes (guard (take size s)) (m .application) (m .reference)
   unfolding withField
-  interval-field-on =
-      ap (drop size) (append-assoc (take size s) (fieldBytes m (take size s)) r)
-      ∙ drop-at (take size s) (fieldBytes m (take size s) ++ r) size (length-take-le size s h)
+  interval-field-on = field-laid size (take size s) _ r (length-take-le size s h) (field-length _ _ _)
 
 pub block-read-on : (size n : ℕ) (m : Marks) (s r : List ℕ) → n * size ≤ length s → userData size n (storedBlock size n m s ++ r) ≡ take (n * size) s
 unfolding userData storedBlock
@@ -105,20 +89,3 @@ blocks-read-on size n k m s r h =
 
 pub blocks-read : (size n k : ℕ) (m : Marks) (s : List ℕ) → k * (n * size) ≤ length s → userData size (k * n) (storedBlocks size n k m s) ≡ take (k * (n * size)) s
 blocks-read size n k m s h = rw append-nil at (blocks-read-on size n k m s [] h)
-
--- ---- the fields written are the fields read
-module _ (m : Marks) (d : List ℕ) where
-  pub guard-there : numberAt 0 2 (fieldBytes m d) ≡ guard d
-  unfolding fieldBytes
-  guard-there = number-there 0 2 (guard d) [] _ refl (guard-lt d)
-
-  pub application-there : m .application < 65536 → numberAt 2 2 (fieldBytes m d) ≡ m .application
-  unfolding fieldBytes
-  application-there h = number-there 2 2 (m .application) (bytes 2 (guard d)) _ (bytes-length 2 (guard d)) h
-
-  pub reference-there : m .reference < 2 ^ 32 → numberAt 4 4 (fieldBytes m d) ≡ m .reference
-  unfolding fieldBytes
-  reference-there h =
-      let both : length (bytes 2 (guard d) ++ bytes 2 (m .application)) ≡ 4 = simp (length-append, bytes-length) in
-      let apart : bytes 2 (guard d) ++ (bytes 2 (m .application) ++ bytes 4 (m .reference)) ≡ (bytes 2 (guard d) ++ bytes 2 (m .application)) ++ (bytes 4 (m .reference) ++ []) = rw (append-nil, append-assoc) in
-      rw apart (number-there 4 4 (m .reference) (bytes 2 (guard d) ++ bytes 2 (m .application)) [] both h)

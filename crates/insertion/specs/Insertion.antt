@@ -2,18 +2,14 @@
 use Prim.Native.Nat.{ℕ, _+_, _*_, _%_, _^_}
 use mathlib.Core.List.{List, _++_}
 use lib.ListN.{take}
-use Rattle.words.specs.BigEndian.{bytes}
 use Rattle.words.specs.Runs.{runs}
 use Rattle.guard.specs.Guard.{guard}
+use Rattle.field.specs.Field.{fieldBytes}
 use Rattle.insertion.specs.declared.Marks.{Marks}
-
--- "guard (2), application tag (2), reference tag (4), all big-endian"
-unfoldable pub fieldBytes : Marks → List ℕ → List ℕ
-fieldBytes m d = bytes 2 (guard d) ++ (bytes 2 (m .application) ++ bytes 4 (m .reference))
 
 -- an interval's data with its field behind it
 unfoldable pub withField : ℕ → Marks → List ℕ → List ℕ
-withField size m s = take size s ++ fieldBytes m (take size s)
+withField size m s = take size s ++ fieldBytes (guard (take size s)) (m .application) (m .reference)
 
 -- the marks of the interval after the next k: the reference tag goes on by `step`, modulo 2^32
 abbrev pub later : ℕ → Marks → Marks

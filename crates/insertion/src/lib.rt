@@ -23,9 +23,7 @@ fn insert_interval(t: &[u16; 256], d: &mut [u8], s: &[u8], m: Marks)
     let n = s.len();
     words::copy(&mut d[..n], s);
     let g = guard::guard_through(t, s);
-    words::write2(d, n, g);
-    words::write2(d, n + 2, m.application);
-    words::write4(d, n + 4, m.reference);
+    field::write(&mut d[n..], g, m.application, m.reference);
 }
 
 // Fills `d`, a stored block, from its user data `s`.

@@ -1,44 +1,18 @@
--- Intervals: their parts, the escape of any of them, and what these can depend on.
+-- Intervals: the escape of any of them, and what it can depend on.
 -- Assumes nothing.
 use mathlib.Core.Path.{_≡_, refl, ap}
 use mathlib.Core.Logic.{_↔_}
 use mathlib.Core.Bool.{Bool, true, false, _||_}
 use mathlib.Core.List.{List}
 use Prim.Native.Nat.{ℕ, zero, suc, _+_, _-_, _*_, _<_, _≤_}
-use native.Mathlib.Nat.{add-assoc}
 use native.Mathlib.Omega.{arith}
 use lib.ListN.{take, drop}
-use lib.Seq.{drop-drop, take-take}
 use Rattle.words.proofs.Choice.{or-none}
-use Rattle.words.proofs.Parts.{part-at}
-use Rattle.words.proofs.Runs.{peel-within, peel-rest}
+use Rattle.field.specs.Field.{fieldOf}
+use Rattle.field.proofs.Laws.{own-field}
 use Rattle.interval.specs.declared.Escape.{Escape}
-use Rattle.interval.specs.Interval.{dataOf, fieldOf, escapes, anyEscapes}
-use Rattle.interval.proofs.TurnLaws.{turn-of, own-of, every-of, drop-take}
-
--- ---- the parts of an interval that starts at i, the first of k that end at n
-pub interval-within : (k i size n : ℕ) → 0 < k → i + k * (size + 8) ≡ n → i + size + 8 ≤ n
-interval-within k i size n h e = rw (add-assoc i size 8) (peel-within k i (size + 8) n h e)
-
-pub interval-rest : (k i size n : ℕ) → 0 < k → i + k * (size + 8) ≡ n → i + size + 8 + (k - 1) * (size + 8) ≡ n
-interval-rest k i size n h e = rw (add-assoc i size 8) (peel-rest k i (size + 8) n h e)
-
-pub data-part : (i size : ℕ) (s : List ℕ) → take (i + size - i) (drop i s) ≡ dataOf size (drop i s)
-unfolding dataOf
-data-part = part-at
-
-pub field-part : (i size : ℕ) (s : List ℕ) → take (i + size + 8 - (i + size)) (drop (i + size) s) ≡ fieldOf size (drop i s)
-unfolding fieldOf
-field-part i size s = rw drop-drop (part-at (i + size) 8 s)
-
--- an interval's parts are its own bytes
-pub own-data : (size : ℕ) (s : List ℕ) → dataOf size (take (size + 8) s) ≡ dataOf size s
-unfolding dataOf
-own-data size s = take-take size (size + 8) s (omega arith)
-
-pub own-field : (size : ℕ) (s : List ℕ) → fieldOf size (take (size + 8) s) ≡ fieldOf size s
-unfolding fieldOf
-own-field size s = rw drop-take (take-take 8 8 (drop size s) (omega arith))
+use Rattle.interval.specs.Interval.{escapes, anyEscapes}
+use Rattle.words.proofs.Turns.{turn-of, own-of, every-of}
 
 -- ---- the escape of any of k intervals
 module _ (e : Escape) (size : ℕ) where

@@ -1,4 +1,3 @@
-pub mod TurnLaws
 pub mod PieceLaws
 pub mod IntervalLaws
 pub mod Coincide

@@ -1,12 +1,12 @@
--- One interval: its parts, whether it has the escape, and which of its fields is wrong.
+-- One interval: whether it has the escape, and which of its fields is wrong.
 use Prim.Native.Nat.{ℕ, zero, suc, _+_}
 use mathlib.Core.Bool.{Bool, false, not, _&&_, _||_, cond}
 use mathlib.Core.List.{List}
 use lib.Bits.{bitAnd}
 use lib.Dec.{eqb}
-use lib.ListN.{take, drop}
-use Rattle.words.specs.BigEndian.{numberAt}
+use lib.ListN.{drop}
 use Rattle.guard.specs.Guard.{guard}
+use Rattle.field.specs.Field.{storedGuard, storedApplication, storedReference, dataOf, fieldOf}
 use Rattle.answer.specs.declared.Answer.{Answer}
 use Rattle.answer.specs.declared.Answer.the-variants as answers
 use Rattle.answer.specs.declared.Field.the-variants as fields
@@ -15,28 +15,11 @@ use Rattle.interval.specs.declared.Escape.the-variants.{Never, Tag, Both
 use Rattle.interval.specs.declared.Rules.{Rules}
 use Rattle.interval.specs.declared.Place.{Place}
 
--- "eight bytes: guard (2), application tag (2), reference tag (4), all big-endian"
-unfoldable pub storedGuard : List ℕ → ℕ
-storedGuard f = numberAt 0 2 f
-
-unfoldable pub storedApplication : List ℕ → ℕ
-storedApplication f = numberAt 2 2 f
-
-unfoldable pub storedReference : List ℕ → ℕ
-storedReference f = numberAt 4 4 f
-
 -- "application tag FFFFh for types 1 and 2; FFFFh with reference FFFFFFFFh for type 3"
 unfoldable pub escapes : Escape → List ℕ → Bool
 escapes Never f = false
 escapes Tag f = eqb (storedApplication f) 0xFFFF
 escapes Both f = eqb (storedApplication f) 0xFFFF && eqb (storedReference f) 0xFFFFFFFF
-
--- An interval in a list is its data bytes and the eight after them.
-unfoldable pub dataOf : ℕ → List ℕ → List ℕ
-dataOf size s = take size s
-
-unfoldable pub fieldOf : ℕ → List ℕ → List ℕ
-fieldOf size s = take 8 (drop size s)
 
 -- "If any interval of a block has it": k intervals are looked at
 unfoldable pub anyEscapes : Escape → ℕ → ℕ → List ℕ → Bool

@@ -41,12 +41,12 @@ pub fn escaped(e: Escape, field: &[u8]) -> bool
 {
     match e {
         Escape::Never => false,
-        Escape::Tag => words::read2(field, 2) == 0xFFFF,
+        Escape::Tag => field::stored_application(field) == 0xFFFF,
         Escape::Both => {
-            if words::read2(field, 2) != 0xFFFF {
+            if field::stored_application(field) != 0xFFFF {
                 return false;
             }
-            words::read4(field, 4) == 0xFFFF_FFFF
+            field::stored_reference(field) == 0xFFFF_FFFF
         }
     }
 }
@@ -77,7 +77,7 @@ fn guard_wrong(t: &[u16; 256], r: Rules, data: &[u8], field: &[u8]) -> bool
     ensures { λ w. ⌜ w ≡ guardWrong r (now («data» .entry)) (now (field .entry)) ⌝ }
 {
     if r.guard {
-        return words::read2(field, 0) != guard::guard_through(t, data);
+        return field::stored_guard(field) != guard::guard_through(t, data);
     }
     false
 }
@@ -88,7 +88,7 @@ fn application_wrong(r: Rules, field: &[u8]) -> bool
     ensures { λ w. ⌜ w ≡ applicationWrong r (now (field .entry)) ⌝ }
 {
     if r.application {
-        return words::read2(field, 2) & r.mask != r.expected & r.mask;
+        return field::stored_application(field) & r.mask != r.expected & r.mask;
     }
     false
 }
@@ -99,7 +99,7 @@ fn reference_wrong(r: Rules, p: Place, field: &[u8]) -> bool
     ensures { λ w. ⌜ w ≡ referenceWrong r p (now (field .entry)) ⌝ }
 {
     if r.reference {
-        return words::read4(field, 4) != p.tag;
+        return field::stored_reference(field) != p.tag;
     }
     false
 }

@@ -10,15 +10,18 @@ use lib.ListN.{length, take, drop, length-drop}
 use lib.Seq.{drop-drop, length-take-le}
 use Rattle.words.proofs.Parts.{part-at}
 use Rattle.words.proofs.Runs.{peel-within, peel-rest}
+use Rattle.words.proofs.Turns.{after}
+use Rattle.answer.specs.Answer.{orElse}
+use Rattle.field.proofs.Laws.{own-data, own-field}
 use Rattle.answer.specs.declared.Answer.{Answer}
 use Rattle.answer.specs.declared.Answer.the-variants as answers
 use Rattle.interval.specs.declared.Rules.{Rules}
 use Rattle.interval.specs.declared.Place.{Place}
 use Rattle.interval.specs.Interval.{anyEscapes, judgePieces, judgeInterval}
 use Rattle.interval.proofs.PieceLaws.{pieces-unchecked}
-use Rattle.interval.proofs.IntervalLaws.{own-data, own-field, own-any}
+use Rattle.interval.proofs.IntervalLaws.{own-any}
 use Rattle.judge.specs.Judge.{judgeIntervals, judgeBlock, judgeBlocks, nextInterval, nextBlock, Run}
-use Rattle.judge.proofs.FirstLaws.{own-bytes, first-good}
+use Rattle.judge.proofs.FirstLaws.{own-bytes, first-good, first-two}
 
 -- ---- what judging can depend on
 module _ (r : Rules) where
@@ -65,6 +68,17 @@ module _ (r : Rules) (g : r .guard ≡ false) (a : r .application ≡ false) (x 
   pub blocks-unchecked : (k : ℕ) (p : Place) (s : List ℕ) → judgeBlocks r k p s ≡ answers.Good
   unfolding judgeBlocks
   blocks-unchecked k p s = first-good (judgeBlock r) (nextBlock (r .intervals)) (r .intervals * (r .size + 8)) k p s .1 (λ j h. block-unchecked _ _)
+
+-- ---- intervals and blocks in two runs, from any place
+module _ (r : Rules) (k m : ℕ) (p : Place) (s : List ℕ) where
+  pub intervals-two : judgeIntervals r (k + m) p s ≡ orElse (judgeIntervals r k p s) (judgeIntervals r m (after nextInterval k p) (drop (k * (r .size + 8)) s))
+  unfolding judgeIntervals
+  intervals-two = first-two (judgeInterval r) nextInterval (r .size + 8) k m p s
+
+  pub blocks-two : judgeBlocks r (k + m) p s
+      ≡ orElse (judgeBlocks r k p s) (judgeBlocks r m (after (nextBlock (r .intervals)) k p) (drop (k * (r .intervals * (r .size + 8))) s))
+  unfolding judgeBlocks
+  blocks-two = first-two (judgeBlock r) (nextBlock (r .intervals)) (r .intervals * (r .size + 8)) k m p s
 
 -- ---- a run of blocks: the first, and those behind it
 module _ (r : Rules) (k : ℕ) (p : Place) (s : List ℕ) (run : Run r k p s) (some : 0 < k) where

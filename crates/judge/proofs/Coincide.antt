@@ -4,6 +4,7 @@
 use mathlib.Core.Path.{_≡_, sym, _∙_}
 use Rattle.judge.proofs.next_interval.Reads as next-interval-reads
 use Rattle.judge.proofs.next_block.Reads as next-block-reads
+use Rattle.judge.proofs.judge_intervals.Reads as judge-intervals-reads
 use Rattle.judge.proofs.judge_block.Reads as judge-block-reads
 use Rattle.judge.proofs.judge_blocks.Reads as judge-blocks-reads
 
@@ -12,6 +13,9 @@ next-interval κs a x y s t p q = p ∙ sym q
 
 pub next-block : (κs : _) (a : _) (x y : _) (s t : _) → next-block-reads.Post κs a x s → next-block-reads.Post κs a y t → x ≡ y
 next-block κs a x y s t p q = p ∙ sym q
+
+pub judge-intervals : (κs : _) (a : _) (x y : _) (s t : _) → judge-intervals-reads.Post κs a x s → judge-intervals-reads.Post κs a y t → x ≡ y
+judge-intervals κs a x y s t p q = p ∙ sym q
 
 pub judge-block : (κs : _) (a : _) (x y : _) (s t : _) → judge-block-reads.Post κs a x s → judge-block-reads.Post κs a y t → x ≡ y
 judge-block κs a x y s t p q = p ∙ sym q

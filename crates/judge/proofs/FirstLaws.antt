@@ -1,7 +1,7 @@
 -- The laws of what is judged piece by piece: one turn of a loop, which piece the answer is of, and which elements it can depend on.
 -- Assumes nothing.
 use mathlib.Core.Path.{_≡_, refl, sym, ap, _∙_}
-use mathlib.Core.Logic.{_↔_, _⊎_, inl, inr, ⊎-elim}
+use mathlib.Core.Logic.{_↔_, ⊎-elim}
 use mathlib.Core.Bool.{true, false, true≢false}
 use mathlib.Core.List.{List}
 use Prim.Native.Nat.{ℕ, zero, suc, _+_, _-_, _*_, _<_, _≤_}
@@ -11,40 +11,9 @@ use lib.ListN.{take, drop}
 use Rattle.answer.specs.Answer.{isGood, orElse}
 use Rattle.answer.specs.declared.Answer.{Answer}
 use Rattle.answer.specs.declared.Answer.the-variants as answers
-use Rattle.answer.specs.declared.Reason.the-variants as reasons
-use Rattle.answer.specs.declared.Field.the-variants as fields
-use Rattle.interval.proofs.TurnLaws.{pieceAt, piece-zero, piece-suc, all-of, turn-of, own-of, every-of}
+use Rattle.answer.proofs.Ladder.{good-or, not-both, orElse-good, orElse-assoc}
+use Rattle.words.proofs.Turns.{after, pieceAt, piece-zero, piece-suc, all-of, turn-of, own-of, every-of, two-of}
 use Rattle.judge.specs.FirstOf.{firstOf}
-
--- ---- the first answer that is not good
-
--- an answer is the good one, or no good one
-pub good-or : (a : Answer) → (a ≡ answers.Good) ⊎ (isGood a ≡ false)
-good-or answers.Good = inl refl
-good-or (answers.Refused reasons.DescriptionBad) = inr refl
-good-or (answers.Refused reasons.SegmentLengthWrong) = inr refl
-good-or (answers.Refused reasons.CommandLengthWrong) = inr refl
-good-or (answers.Refused reasons.BufferLengthWrong) = inr refl
-good-or (answers.Refused reasons.OperationInvalid) = inr refl
-good-or (answers.Refused reasons.FieldInvalid) = inr refl
-good-or (answers.Refused reasons.AddressOutOfRange) = inr refl
-good-or (answers.Wrong fields.Guard a p) = inr refl
-good-or (answers.Wrong fields.Application a p) = inr refl
-good-or (answers.Wrong fields.Reference a p) = inr refl
-good-or (answers.Refused reasons.StripeShapeBad) = inr refl
-good-or (answers.Refused reasons.ParameterInvalid) = inr refl
-good-or (answers.Refused reasons.ListingRecordBad) = inr refl
-good-or (answers.Refused reasons.TransferTooLarge) = inr refl
-
-pub not-both : (a : Answer) → a ≡ answers.Good → isGood a ≡ false → ⊥
-not-both a g w = true≢false (sym (ap isGood g) ∙ w)
-
-pub orElse-good : (a b : Answer) → (orElse a b ≡ answers.Good) ↔ ((a ≡ answers.Good) × (b ≡ answers.Good))
-orElse-good a b =
-    ⊎-elim
-    (λ g. rw g (λ e. (refl, e), λ two. two .1))
-    (λ w. rw w (λ e. absurd (not-both a e w), λ two. two .0))
-    (good-or a)
 
 module _ {A : Type 0} (judge : A → List ℕ → Answer) (next : A → A) (P : ℕ) where
   turned : (k : ℕ) (t : A) (s : List ℕ) → firstOf judge next P (suc k) t s ≡ orElse (judge t s) (firstOf judge next P k (next t) (drop P s))
@@ -76,6 +45,12 @@ module _ {A : Type 0} (judge : A → List ℕ → Answer) (next : A → A) (P : 
       → (firstOf judge next P k t s ≡ answers.Good) ↔ ((j : ℕ) → j < k → pieceAt judge next P t s j ≡ answers.Good)
   unfolding firstOf
   first-good = every-of judge next P (firstOf judge next P) orElse turned answers.Good answers.Good (λ t s. refl) orElse-good
+
+  -- of k + m pieces the first wrong one is among the k, else among the m behind them
+  pub first-two : (k m : ℕ) (t : A) (s : List ℕ)
+      → firstOf judge next P (k + m) t s ≡ orElse (firstOf judge next P k t s) (firstOf judge next P m (after next k t) (drop (k * P) s))
+  unfolding firstOf
+  first-two = two-of judge next P (firstOf judge next P) orElse turned orElse (λ t s b. refl) orElse-assoc
 
   -- piece `at` is the first of k that is not good, and `a` is its judgement
   pub record FirstWrong (k : ℕ) (t : A) (s : List ℕ) (a : Answer) : Type 0 where

@@ -6,7 +6,7 @@ use native.Mathlib.Nat.{suc-mul, zero-mul, add-zero, mod-add-mod, mod-eq-of-lt, 
 use native.Mathlib.Omega.{arith}
 use lib.Dec.{lit<}
 use Rattle.interval.specs.declared.Place.{Place}
-use Rattle.interval.proofs.TurnLaws.{after}
+use Rattle.words.proofs.Turns.{after}
 use Rattle.judge.specs.Judge.{nextInterval, nextBlock}
 
 pub same-place : (a i x y : ℕ) → x ≡ y → _≡_ {A = Place} (record { address = a; interval = i; tag = x }) (record { address = a; interval = i; tag = y })

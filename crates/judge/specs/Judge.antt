@@ -39,3 +39,8 @@ pub record Run (r : Rules) (k : ℕ) (p : Place) (s : List ℕ) : Type 0 where
   pub intervals : p .interval + k * r .intervals ≤ 2 ^ 32
   pub few : r .intervals ≤ 8
   pub size : r .size ≤ 4096
+
+-- what k intervals of one block ask
+pub record Stretch (r : Rules) (k : ℕ) (p : Place) (s : List ℕ) : Type 0 where
+  pub whole : k * (r .size + 8) ≡ length s
+  pub intervals : p .interval + k ≤ 2 ^ 32

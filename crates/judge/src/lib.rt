@@ -2,7 +2,7 @@
 ghost use mathlib.Core.Path.{_≡_};
 ghost use Prim.Native.Nat.{_+_, _≤_, _<_, _^_};
 ghost use Rattle.guard.specs.Table.{Right};
-ghost use Rattle.judge.specs.Judge.{judgeIntervals, judgeBlock, judgeBlocks, nextInterval, nextBlock, Run};
+ghost use Rattle.judge.specs.Judge.{judgeIntervals, judgeBlock, judgeBlocks, nextInterval, nextBlock, Run, Stretch};
 use answer::Answer;
 use interval::Place;
 use interval::Rules;
@@ -30,14 +30,14 @@ pub fn next_block(n: usize, p: Place) -> Place
     }
 }
 
-// The first wrong interval of a block.
-fn judge_intervals(t: &[u16; 256], r: Rules, p: Place, s: &[u8]) -> Answer
+// The first wrong one of `count` intervals of a block.
+pub fn judge_intervals(t: &[u16; 256], r: Rules, p: Place, count: usize, s: &[u8]) -> Answer
     requires { ⌜ Right (now t) ⌝ }
-    requires { ⌜ Run r 1 p (now s) ⌝ }
-    ensures { λ a. ⌜ a ≡ judgeIntervals r (r .intervals) p (now (s .entry)) ⌝ }
+    requires { ⌜ Stretch r count p (now s) ⌝ }
+    ensures { λ a. ⌜ a ≡ judgeIntervals r count p (now (s .entry)) ⌝ }
 {
     let size = r.size;
-    let mut left = r.intervals;
+    let mut left = count;
     let mut here = p;
     let mut i: usize = 0;
     while 0 < left {
@@ -64,7 +64,7 @@ pub fn judge_block(t: &[u16; 256], r: Rules, p: Place, s: &[u8]) -> Answer
     if interval::any_escaped(escape, r.size, r.intervals, s) {
         return Answer::Good;
     }
-    judge_intervals(t, r, p, s)
+    judge_intervals(t, r, p, r.intervals, s)
 }
 
 // A run of `count` blocks: the first wrong interval, guard before application before reference.

@@ -3,23 +3,11 @@
 -- Assumes nothing.
 use mathlib.Core.Path.{_≡_, sym, _∙_}
 use denote.Ref.{now}
-use Rattle.lines.proofs.faulty.Reads as faulty-reads
-use Rattle.lines.proofs.skips.Reads as skips-reads
 use Rattle.lines.proofs.line_of.Reads as line-of-reads
 use Rattle.lines.proofs.print_line.Reads as print-line-reads
-use Rattle.lines.proofs.print_total.Reads as print-total-reads
-
-pub faulty : (κs : _) (a : _) (x y : _) (s t : _) → faulty-reads.Post κs a x s → faulty-reads.Post κs a y t → x ≡ y
-faulty κs a x y s t p q = p ∙ sym q
-
-pub skips : (κs : _) (a : _) (x y : _) (s t : _) → skips-reads.Post κs a x s → skips-reads.Post κs a y t → x ≡ y
-skips κs a x y s t p q = p ∙ sym q
 
 pub line-of : (κs : _) (a : _) (x y : _) (s t : _) → line-of-reads.Post κs a x s → line-of-reads.Post κs a y t → x ≡ y
 line-of κs a x y s t p q = p ∙ sym q
 
 pub print-line : (κs : _) (a : _) (x y : _) (s t : _) → print-line-reads.Post κs a x s → print-line-reads.Post κs a y t → (x ≡ y) × (now (s .0) ≡ now (t .0))
 print-line κs a x y s t p q = (p .end ∙ sym (q .end), p .now ∙ sym (q .now))
-
-pub print-total : (κs : _) (a : _) (x y : _) (s t : _) → print-total-reads.Post κs a x s → print-total-reads.Post κs a y t → (x ≡ y) × (now (s .0) ≡ now (t .0))
-print-total κs a x y s t p q = (p .end ∙ sym (q .end), p .now ∙ sym (q .now))

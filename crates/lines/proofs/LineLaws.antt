@@ -1,5 +1,4 @@
--- The laws of a line: its state and fields from the bytes of its interval, and its text, and that of the last line, from the
--- texts that they are printed as.
+-- The laws of a line: its state and fields from the bytes of its interval, and its text from the texts that it is printed as.
 -- Assumes nothing.
 use mathlib.Core.Path.{_≡_, ap, _∙_}
 use mathlib.Core.Bool.{Bool, true, false}
@@ -7,11 +6,12 @@ use mathlib.Core.List.{List, [], _∷_, _++_, append-assoc}
 use Prim.Native.Nat.{ℕ, _+_, _-_, _≤_}
 use native.Mathlib.Omega.{arith}
 use lib.ListN.{length, take, drop, length-append}
-use Rattle.words.specs.BigEndian.{numberAt}
 use Rattle.answer.specs.declared.Answer.{Answer}
 use Rattle.interval.specs.declared.Rules.{Rules}
 use Rattle.interval.specs.declared.Place.{Place}
-use Rattle.interval.specs.Interval.{storedGuard, storedApplication, storedReference, dataOf, fieldOf, judgePieces, judgeInterval}
+use Rattle.field.specs.Field.{storedGuard, storedApplication, storedReference, dataOf}
+use Rattle.field.proofs.Laws.{field-whole}
+use Rattle.interval.specs.Interval.{judgePieces, judgeInterval}
 use Rattle.text.specs.Text.{hexadecimal, decimal}
 use Rattle.text.specs.Laid.{Written}
 use Rattle.text.proofs.Writing.{written-then, written-as}
@@ -19,17 +19,12 @@ use Rattle.text.proofs.Digits.{decimal-most, hexadecimal-length}
 use Rattle.lines.specs.declared.Line.{Line}
 use Rattle.lines.specs.declared.State.{State}
 use Rattle.lines.specs.declared.State.the-variants.{Skipped, Guard, Ref, Ok}
-use Rattle.lines.specs.Lines.{worded, stateOf, lineOf, stateText, lineText, intervalsText, faultsText, skippedText, numbersText}
+use Rattle.lines.specs.Lines.{worded, stateOf, lineOf, stateText, lineText}
 
 -- ---- the state
 pub state-skipped : (r : Rules) (k : Bool) (p : Place) (s : List ℕ) → k ≡ true → Skipped ≡ stateOf r k p s
 unfolding stateOf
 state-skipped r k p s e = rw e
-
--- the bytes behind the data of an interval that is all there is
-field-whole : (size : ℕ) (s : List ℕ) → size + 8 ≡ length s → take (length s - size) (drop size s) ≡ fieldOf size s
-unfolding fieldOf
-field-whole size s e = let eight : length s - size ≡ 8 = omega arith in rw eight
 
 pub state-judged : (r : Rules) (k : Bool) (p : Place) (s : List ℕ) (a : Answer) (x : State) → r .size + 8 ≡ length s → k ≡ false
     → a ≡ judgePieces r p (take (r .size) s) (take (length s - r .size) (drop (r .size) s)) → x ≡ worded a → x ≡ stateOf r k p s
@@ -41,11 +36,11 @@ abbrev pub made : ℕ → ℕ → ℕ → ℕ → ℕ → State → Line
 made a i g m f x = record { address = a; interval = i; guard = g; application = m; reference = f; state = x }
 
 pub line-made : (r : Rules) (k : Bool) (i : ℕ) (p : Place) (s : List ℕ) (g m f : ℕ) (x : State) → r .size + 8 ≡ length s
-    → g ≡ numberAt 0 2 (take (length s - r .size) (drop (r .size) s))
-    → m ≡ numberAt 2 2 (take (length s - r .size) (drop (r .size) s))
-    → f ≡ numberAt 4 4 (take (length s - r .size) (drop (r .size) s))
+    → g ≡ storedGuard (take (length s - r .size) (drop (r .size) s))
+    → m ≡ storedApplication (take (length s - r .size) (drop (r .size) s))
+    → f ≡ storedReference (take (length s - r .size) (drop (r .size) s))
     → x ≡ stateOf r k p s → made (p .address) i g m f x ≡ lineOf r k i p s
-unfolding lineOf storedGuard storedApplication storedReference
+unfolding lineOf
 line-made r k i p s g m f x whole eg em ef ex = rw (eg, em, ef, ex, field-whole (r .size) s whole)
 
 -- ---- its text
@@ -80,10 +75,3 @@ line-most l =
       hexadecimal-length 8 (l .reference),
       state-most (l .state),
     ))
-
--- ---- the last line
-module _ (l f k : ℕ) {at a b c d e z : ℕ} {o oa ob oc od oe oz : List ℕ} where
-  pub numbers-written : Written intervalsText at o a oa → Written (decimal l) a oa b ob → Written faultsText b ob c oc → Written (decimal f) c oc d od
-      → Written skippedText d od e oe → Written (decimal k ++ (0x0A ∷ [])) e oe z oz → Written (numbersText l f k) at o z oz
-  unfolding numbersText
-  numbers-written wa wb wc wd we wz = written-then wa (written-then wb (written-then wc (written-then wd (written-then we wz))))

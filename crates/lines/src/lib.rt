@@ -1,10 +1,10 @@
-// A line of the listing, before and as it is printed; and the last line, which counts the lines.
+// A line of the listing, before and as it is printed.
 ghost use mathlib.Core.Path.{_≡_};
 ghost use Prim.Native.Nat.{_+_, _≤_, _^_};
 ghost use lib.ListN.{length};
 ghost use Rattle.guard.specs.Table.{Right};
 ghost use Rattle.text.specs.Laid.{Written};
-ghost use Rattle.lines.specs.Lines.{worded, stateOf, lineOf, faulty, skips, stateText, lineText, numbersText};
+ghost use Rattle.lines.specs.Lines.{worded, stateOf, lineOf, stateText, lineText};
 use answer::Answer;
 use answer::Field;
 use answer::Reason;
@@ -29,14 +29,6 @@ pub struct Line {
     pub state: State,
 }
 
-// Where printing stands: the place in the buffer, and the lines so far: all, those with a fault, those skipped.
-pub struct Sheet {
-    pub at: usize,
-    pub lines: u64,
-    pub faults: u64,
-    pub skipped: u64,
-}
-
 // What judging says of an interval, as a word of the listing.
 fn worded(a: Answer) -> State
     ensures { λ r. ⌜ r ≡ worded a ⌝ }
@@ -57,28 +49,6 @@ fn worded(a: Answer) -> State
         Answer::Refused(Reason::ParameterInvalid) => State::Ok,
         Answer::Refused(Reason::ListingRecordBad) => State::Ok,
         Answer::Refused(Reason::TransferTooLarge) => State::Ok,
-    }
-}
-
-pub fn faulty(s: State) -> u64
-    ensures { λ r. ⌜ r ≡ faulty s ⌝ }
-{
-    match s {
-        State::Skipped => 0,
-        State::Guard => 1,
-        State::Ref => 1,
-        State::Ok => 0,
-    }
-}
-
-pub fn skips(s: State) -> u64
-    ensures { λ r. ⌜ r ≡ skips s ⌝ }
-{
-    match s {
-        State::Skipped => 1,
-        State::Guard => 0,
-        State::Ref => 0,
-        State::Ok => 0,
     }
 }
 
@@ -106,9 +76,9 @@ pub fn line_of(t: &[u16; 256], r: Rules, skipped: bool, i: u64, p: Place, s: &[u
     Line {
         address: p.address,
         interval: i,
-        guard: words::read2(field, 0),
-        application: words::read2(field, 2),
-        reference: words::read4(field, 4),
+        guard: field::stored_guard(field),
+        application: field::stored_application(field),
+        reference: field::stored_reference(field),
         state: state_of(t, r, skipped, p, s),
     }
 }
@@ -137,17 +107,4 @@ pub fn print_line(out: &mut [u8], at: usize, l: Line) -> usize
     let f = text::hexadecimal_then(out, m, 8, l.reference as u64, 0x20);
     let e = print_state(out, f, state);
     text::put(out, e, 0x0A)
-}
-
-// The last line: how many lines there are, how many with a fault, how many skipped.
-pub fn print_total(out: &mut [u8], t: Sheet) -> usize
-    requires { ⌜ t .at + 88 ≤ 2 ^ 32 ⌝ }
-    ensures { λ r. ⌜ Written (numbersText (t .lines) (t .faults) (t .skipped)) (t .at) (now (out .entry)) r (now (out .exit)) ⌝ }
-{
-    let a = text::put_word(out, t.at, b"intervals ");
-    let b = text::decimal(out, a, t.lines);
-    let c = text::put_word(out, b, b" faults ");
-    let d = text::decimal(out, c, t.faults);
-    let e = text::put_word(out, d, b" skipped ");
-    text::decimal_then(out, e, t.skipped, 0x0A)
 }

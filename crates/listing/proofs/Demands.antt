@@ -15,18 +15,21 @@ use Rattle.segment.specs.declared.Description.{Description}
 use Rattle.segment.specs.Segment.{Segment, intervalsOf, lengthOf}
 use Rattle.interval.specs.declared.Rules.{Rules}
 use Rattle.interval.specs.declared.Place.{Place}
-use Rattle.interval.specs.Interval.{dataOf, fieldOf, anyEscapes, guardWrong, applicationWrong, referenceWrong, judgePieces, judgeInterval}
+use Rattle.field.specs.Field.{dataOf, fieldOf}
+use Rattle.interval.specs.Interval.{anyEscapes, guardWrong, applicationWrong, referenceWrong, judgePieces, judgeInterval}
 use Rattle.judge.specs.FirstOf.{firstOf}
 use Rattle.judge.specs.Judge.{judgeIntervals, judgeBlock, judgeBlocks, nextInterval, nextBlock}
-use Rattle.judge.proofs.FirstLaws.{orElse-good}
-use Rattle.checks.specs.Checks.{columnsOf, applicationKnown, rulesOf, startOf}
+use Rattle.answer.proofs.Ladder.{orElse-good}
+use Rattle.command.specs.Sixteen.{sixteen}
+use Rattle.rules.specs.Rules.{columnsOf, applicationKnown, rulesOf, startOf}
 use Rattle.text.proofs.Writing.{laid-length}
 use Rattle.text.proofs.Digits.{decimal-most}
-use Rattle.lines.specs.Lines.{worded, stateOf, lineOf, intervalLines, linesIn, blockLines, faulty, skips, countOf, linesText, headerText, intervalsText, faultsText, skippedText, numbersText, totalText}
+use Rattle.lines.specs.Lines.{worded, stateOf, lineOf}
+use Rattle.sheet.specs.Sheet.{intervalLines, linesIn, blockLines, faulty, skips, countOf, linesText}
 use Rattle.records.specs.Record.{recordAnswer, describedBy, segmentIn}
-use Rattle.listing.specs.Listing.{readAll, linesOf, listedText, refusedText, listing, Listed}
-use Rattle.listing.proofs.SheetLaws.{count-append, lines-most}
-use Rattle.listing.proofs.BlockLaws.{blocks-length}
+use Rattle.listing.specs.Listing.{readAll, linesOf, headerText, intervalsText, faultsText, skippedText, numbersText, totalText, listedText, refusedText, listing, Listed}
+use Rattle.sheet.proofs.SheetLaws.{count-append, lines-most}
+use Rattle.sheet.proofs.BlockLaws.{blocks-length}
 use Rattle.records.proofs.RecordLaws.{record-whole}
 use Rattle.listing.proofs.ListingLaws.{lines-none, lines-are, lines-length}
 
@@ -101,7 +104,7 @@ module _ (r : Rules) (plain : r .application ≡ false) where
       (faults-blocks k (nextBlock (r .intervals) p) (drop (r .intervals * (r .size + 8)) s))
 
 pub read-plain : (d : Description) → rulesOf d (readAll d) .application ≡ false
-unfolding rulesOf readAll columnsOf applicationKnown
+unfolding rulesOf sixteen columnsOf applicationKnown
 read-plain d = refl
 
 -- the whole segment, judged with what code 001 of a 16-byte READ checks, is good exactly where no line is faulty

@@ -18,18 +18,21 @@ use Rattle.segment.specs.declared.Description.{Description}
 use Rattle.segment.specs.Segment.{Segment, intervalsOf, lengthOf}
 use Rattle.interval.specs.declared.Rules.{Rules}
 use Rattle.interval.specs.declared.Place.{Place}
-use Rattle.interval.specs.Interval.{storedReference, anyEscapes, judgeInterval}
-use Rattle.interval.proofs.TurnLaws.{after}
+use Rattle.field.specs.Field.{storedReference}
+use Rattle.interval.specs.Interval.{anyEscapes, judgeInterval}
+use Rattle.words.proofs.Turns.{after}
 use Rattle.judge.specs.Judge.{nextInterval, nextBlock}
-use Rattle.checks.specs.Checks.{firstTag, rulesOf, startOf}
-use Rattle.checks.specs.Intervals.{intervalAt, placeAt, skipped, verdictAt}
-use Rattle.checks.proofs.Places.{tag-small, place-is}
+use Rattle.command.specs.Sixteen.{sixteen}
+use Rattle.rules.specs.Rules.{firstTag, rulesOf, startOf}
+use Rattle.rules.specs.Intervals.{intervalAt, placeAt, skipped, verdictAt}
+use Rattle.rules.proofs.Places.{tag-small, place-is}
 use Rattle.lines.specs.declared.Line.{Line}
 use Rattle.lines.specs.declared.State.the-variants.{Skipped}
-use Rattle.lines.specs.Lines.{worded, stateOf, lineOf, intervalLines, linesIn, blockLines, faulty}
+use Rattle.lines.specs.Lines.{worded, stateOf, lineOf}
+use Rattle.sheet.specs.Sheet.{intervalLines, linesIn, blockLines, faulty}
 use Rattle.listing.specs.Listing.{readAll, linesOf}
 use Rattle.listing.specs.Indexed.{fieldAt, escapedAt, stateAt, lineAt}
-use Rattle.listing.proofs.BlockLaws.{block-length}
+use Rattle.sheet.proofs.BlockLaws.{block-length}
 use Rattle.listing.proofs.ListingLaws.{lines-are}
 use Rattle.listing.proofs.States.{state-in-words}
 use Rattle.listing.proofs.Demands.{fault-interval, read-plain}
@@ -72,7 +75,7 @@ module _ (r : Rules) (x : Line) where
 
 -- ---- of a segment
 small : (d : Description) → firstTag d (readAll d) < 2 ^ 32
-unfolding readAll
+unfolding sixteen
 small d = tag-small d (readAll d) (lit< tt)
 
 -- in type 1 a block has one interval, and the tag expected there is the address's low four bytes
@@ -82,7 +85,7 @@ one-interval d g k = ap (λ (e : ℕ). 2 ^ e) (g .plain (omega (arith, k)))
 
 module _ (d : Description) (s : List ℕ) (g : Segment d) (j i : ℕ) (within : i < intervalsOf d) where
   tag-is : d .kind ≡ 1 → placeAt d (readAll d) j i .tag ≡ (d .first + j) % 2 ^ 32
-  unfolding readAll firstTag
+  unfolding sixteen firstTag
   tag-is k =
       let one : intervalsOf d ≡ 1 = one-interval d g k in
       let here : j * 1 + i ≡ j = omega (arith, one) in
@@ -93,7 +96,7 @@ module _ (d : Description) (s : List ℕ) (g : Segment d) (j i : ℕ) (within : 
   reference-is false f e = refl
 
   escape-is : skipped d (readAll d) s j ≡ escapedAt d s j
-  unfolding rulesOf readAll
+  unfolding rulesOf sixteen
   escape-is = refl
 
   -- the state is what judging with the rules of `readAll` says
@@ -103,7 +106,7 @@ module _ (d : Description) (s : List ℕ) (g : Segment d) (j i : ℕ) (within : 
       ∙ rw (reference-is (eqb (d .kind) 1) (storedReference (fieldAt d s j i)) refl, escape-is) refl
 
   line-is : lineOf (rulesOf d (readAll d)) (skipped d (readAll d) s j) i (placeAt d (readAll d) j i) (intervalAt d s j i) ≡ lineAt d s j i
-  unfolding lineOf lineAt rulesOf readAll
+  unfolding lineOf lineAt rulesOf sixteen
   line-is = rw state-is refl
 
   -- line j × n + i: the address W + j, the interval i, its bytes and its state (x is what getD gives past the end)

@@ -1,5 +1,3 @@
-pub mod SheetLaws
-pub mod BlockLaws
 pub mod ListingLaws
 pub mod Demands
 pub mod States

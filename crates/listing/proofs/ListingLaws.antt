@@ -19,16 +19,17 @@ use Rattle.command.specs.declared.Command.{Command}
 use Rattle.interval.specs.declared.Rules.{Rules}
 use Rattle.interval.specs.declared.Place.{Place}
 use Rattle.judge.specs.Judge.{Run}
-use Rattle.checks.specs.Checks.{rulesOf, startOf}
+use Rattle.command.specs.Sixteen.{sixteen}
+use Rattle.rules.specs.Rules.{rulesOf, startOf}
 use Rattle.text.specs.Text.{decimal}
 use Rattle.text.specs.Laid.{laid, Written}
 use Rattle.text.proofs.Writing.{written-then, written-as}
-use Rattle.lines.specs.declared.Sheet.{Sheet}
-use Rattle.lines.specs.Lines.{blockLines, headerText, numbersText, totalText, Printed, Room}
+use Rattle.sheet.specs.declared.Sheet.{Sheet}
+use Rattle.sheet.specs.Sheet.{blockLines, Printed, Room}
 use Rattle.records.specs.Record.{recordAnswer, describedBy, segmentIn}
-use Rattle.listing.specs.Listing.{readAll, linesOf, listedText, refusedText, listing, Listed}
-use Rattle.listing.proofs.SheetLaws.{sheet, printed-none, printed-as, room-next, room-less, first-room}
-use Rattle.listing.proofs.BlockLaws.{blocks-length}
+use Rattle.listing.specs.Listing.{readAll, linesOf, headerText, intervalsText, faultsText, skippedText, numbersText, totalText, listedText, refusedText, listing, Listed}
+use Rattle.sheet.proofs.SheetLaws.{sheet, printed-none, printed-as, room-next, room-less, first-room}
+use Rattle.sheet.proofs.BlockLaws.{blocks-length}
 use Rattle.records.proofs.RecordLaws.{Whole, record-whole}
 
 -- ---- a refusal
@@ -43,7 +44,7 @@ refused-written a {n} e p q = written-then p (written-as (ap (λ (i : ℕ). deci
 -- ---- the lines of a segment
 module _ (d : Description) (s : List ℕ) (g : Segment d) (long : lengthOf d ≡ length s) where
   pub segment-run : (d .kind ≡ 0 → ⊥) → Run (rulesOf d (readAll d)) (d .count) (startOf d (readAll d)) s
-  unfolding rulesOf startOf readAll lengthOf
+  unfolding rulesOf startOf sixteen lengthOf
   segment-run n =
       record {
         whole = ap (λ (x : ℕ). d .count * x) (sym (stored-intervals d g n)) ∙ long;
@@ -103,6 +104,13 @@ module _ (d : Description) (s : List ℕ) (g : Segment d) (long : lengthOf d ≡
   lines-end {at} {u} small few w =
       let room : Room (sheet at 0 0 0) (length (linesOf d s) + 0) = first-room at _ small (omega (arith, lines-length)) in
       omega (arith, room-next 0 room w .at)
+
+-- ---- the last line
+module _ (l f k : ℕ) {at a b c d e z : ℕ} {o oa ob oc od oe oz : List ℕ} where
+  pub numbers-written : Written intervalsText at o a oa → Written (decimal l) a oa b ob → Written faultsText b ob c oc → Written (decimal f) c oc d od
+      → Written skippedText d od e oe → Written (decimal k ++ (0x0A ∷ [])) e oe z oz → Written (numbersText l f k) at o z oz
+  unfolding numbersText
+  numbers-written wa wb wc wd we wz = written-then wa (written-then wb (written-then wc (written-then wd (written-then we wz))))
 
 -- ---- all of it
 pub tail-whole : (n : ℕ) (s : List ℕ) → take (length s - n) (drop n s) ≡ drop n s

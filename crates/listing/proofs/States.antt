@@ -14,11 +14,13 @@ use Rattle.answer.specs.declared.Field.the-variants as fields
 use Rattle.segment.specs.declared.Description.{Description}
 use Rattle.segment.specs.Segment.{Segment, intervalsOf, sizeOf}
 use Rattle.interval.specs.declared.Place.{Place}
-use Rattle.interval.specs.Interval.{dataOf, fieldOf, storedGuard, storedReference, guardWrong, applicationWrong, referenceWrong, judgePieces, judgeInterval}
-use Rattle.interval.proofs.TurnLaws.{after}
+use Rattle.field.specs.Field.{dataOf, fieldOf, storedGuard, storedReference}
+use Rattle.interval.specs.Interval.{guardWrong, applicationWrong, referenceWrong, judgePieces, judgeInterval}
+use Rattle.words.proofs.Turns.{after}
 use Rattle.judge.specs.Judge.{nextBlock}
 use Rattle.judge.proofs.PlaceLaws.{place-after-block}
-use Rattle.checks.specs.Checks.{columnsOf, applicationKnown, referenceKnown, firstTag, rulesOf, startOf}
+use Rattle.command.specs.Sixteen.{sixteen}
+use Rattle.rules.specs.Rules.{columnsOf, applicationKnown, referenceKnown, firstTag, rulesOf, startOf}
 use Rattle.lines.specs.declared.State.{State}
 use Rattle.lines.specs.declared.State.the-variants.{Skipped, Guard, Ref, Ok}
 use Rattle.lines.specs.Lines.{worded, stateOf}
@@ -43,7 +45,7 @@ pub state-in-words : (d : Description) (skipped : Bool) (p : Place) (s : List �
     → let f = fieldOf (sizeOf d) s in
     stateOf (rulesOf d (readAll d)) skipped p s
     ≡ inWords skipped (not (eqb (storedGuard f) (guard (dataOf (sizeOf d) s)))) (eqb (d .kind) 1 && not (eqb (storedReference f) (p .tag)))
-unfolding stateOf judgeInterval judgePieces guardWrong applicationWrong referenceWrong rulesOf readAll columnsOf applicationKnown referenceKnown
+unfolding stateOf judgeInterval judgePieces guardWrong applicationWrong referenceWrong rulesOf sixteen columnsOf applicationKnown referenceKnown
 state-in-words d skipped p s =
     let f = fieldOf (sizeOf d) s in
     ap (cond skipped Skipped)
@@ -52,7 +54,7 @@ state-in-words d skipped p s =
 -- "the address's low four bytes expected": the tag at block j, and the address that its line has
 pub address-expected : (d : Description) (j : ℕ) → Segment d → d .kind ≡ 1
     → after (nextBlock (intervalsOf d)) j (startOf d (readAll d)) ≡ record { address = d .first + j; interval = j; tag = (d .first + j) % 2 ^ 32 }
-unfolding startOf readAll firstTag intervalsOf
+unfolding startOf sixteen firstTag intervalsOf
 address-expected d j g k =
     let tags : (d .first % 2 ^ 32 + j) % 2 ^ 32 ≡ (d .first + j) % 2 ^ 32 = mod-add-mod (d .first) (2 ^ 32) j in
     rw (eq-eqb (d .kind) 1 k, g .plain (omega (arith, k)))

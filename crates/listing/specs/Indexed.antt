@@ -7,9 +7,10 @@ use Rattle.guard.specs.Guard.{guard}
 use Rattle.segment.specs.declared.Description.{Description}
 use Rattle.segment.specs.Segment.{intervalsOf, sizeOf}
 use Rattle.command.specs.declared.Operation.the-variants.{Read}
-use Rattle.interval.specs.Interval.{storedGuard, storedApplication, storedReference, dataOf, fieldOf, anyEscapes}
-use Rattle.checks.specs.Checks.{escapeOf}
-use Rattle.checks.specs.Intervals.{blockAt, intervalAt}
+use Rattle.field.specs.Field.{storedGuard, storedApplication, storedReference, dataOf, fieldOf}
+use Rattle.interval.specs.Interval.{anyEscapes}
+use Rattle.rules.specs.Rules.{escapeOf}
+use Rattle.rules.specs.Intervals.{blockAt, intervalAt}
 use Rattle.lines.specs.declared.Line.{Line}
 use Rattle.lines.specs.declared.State.{State}
 use Rattle.lines.specs.declared.State.the-variants.{Skipped, Guard, Ref, Ok}

@@ -1,6 +1,6 @@
 -- "The listing program": what is printed of a record.
 use Prim.Native.Nat.{ℕ}
-use mathlib.Core.Bool.{false, cond}
+use mathlib.Core.Bool.{cond}
 use mathlib.Core.List.{List, [], _∷_, _++_}
 use mathlib.Core.Path.{_≡_}
 use lib.Dec.{eqb}
@@ -10,32 +10,46 @@ use Rattle.answer.specs.declared.Answer.{Answer}
 use Rattle.segment.specs.declared.Description.{Description}
 use Rattle.command.specs.declared.Command.{Command}
 use Rattle.command.specs.declared.Operation.the-variants.{Read}
-use Rattle.checks.specs.Checks.{rulesOf, startOf}
+use Rattle.command.specs.Sixteen.{sixteen}
+use Rattle.rules.specs.Rules.{rulesOf, startOf}
 use Rattle.text.specs.Text.{decimal}
 use Rattle.text.specs.Laid.{laid}
 use Rattle.lines.specs.declared.Line.{Line}
-use Rattle.lines.specs.Lines.{blockLines, linesText, headerText, totalText}
+use Rattle.sheet.specs.Sheet.{blockLines, faulty, skips, countOf, linesText}
 use Rattle.records.specs.Record.{recordAnswer, describedBy, segmentIn}
 
 -- The states are those of judging with what code 001 of a 16-byte READ of the whole segment checks: the guard, and in type 1 the
 -- reference. The type rules are not applied: in type 2 such a command itself would be answered 5.
-unfoldable pub readAll : Description → Command
-readAll d =
-    record {
-      operation = Read;
-      long = false;
-      code = 0b001;
-      check = 0;
-      address = d .first;
-      length = d .count;
-      tag = 0;
-      application = 0;
-      mask = 0;
-    }
+abbrev pub readAll : Description → Command
+readAll d = sixteen Read (d .first) (d .count)
 
 -- "Type 0 has no interval lines."
 unfoldable pub linesOf : Description → List ℕ → List Line
 linesOf d s = cond (eqb (d .kind) 0) [] (blockLines (rulesOf d (readAll d)) (d .count) (startOf d (readAll d)) s)
+
+-- `lba interval guard app ref state`
+unfoldable pub headerText : List ℕ
+headerText =
+    0x6C ∷ 0x62 ∷ 0x61 ∷ 0x20 ∷ 0x69 ∷ 0x6E ∷ 0x74 ∷ 0x65 ∷ 0x72 ∷ 0x76 ∷ 0x61 ∷ 0x6C ∷ 0x20 ∷ 0x67 ∷ 0x75 ∷ 0x61 ∷ 0x72 ∷ 0x64
+    ∷ 0x20 ∷ 0x61 ∷ 0x70 ∷ 0x70 ∷ 0x20 ∷ 0x72 ∷ 0x65 ∷ 0x66 ∷ 0x20 ∷ 0x73 ∷ 0x74 ∷ 0x61 ∷ 0x74 ∷ 0x65 ∷ 0x0A ∷ []
+
+-- `intervals `, ` faults `, ` skipped `
+unfoldable pub intervalsText : List ℕ
+intervalsText = 0x69 ∷ 0x6E ∷ 0x74 ∷ 0x65 ∷ 0x72 ∷ 0x76 ∷ 0x61 ∷ 0x6C ∷ 0x73 ∷ 0x20 ∷ []
+
+unfoldable pub faultsText : List ℕ
+faultsText = 0x20 ∷ 0x66 ∷ 0x61 ∷ 0x75 ∷ 0x6C ∷ 0x74 ∷ 0x73 ∷ 0x20 ∷ []
+
+unfoldable pub skippedText : List ℕ
+skippedText = 0x20 ∷ 0x73 ∷ 0x6B ∷ 0x69 ∷ 0x70 ∷ 0x70 ∷ 0x65 ∷ 0x64 ∷ 0x20 ∷ []
+
+-- "the last gives the number of interval lines, of those in state `guard` or `ref`, and of those `skipped`"
+unfoldable pub numbersText : ℕ → ℕ → ℕ → List ℕ
+numbersText all faults skipped =
+    intervalsText ++ (decimal all ++ (faultsText ++ (decimal faults ++ (skippedText ++ (decimal skipped ++ (0x0A ∷ []))))))
+
+unfoldable pub totalText : List Line → List ℕ
+totalText ls = numbersText (length ls) (countOf faulty ls) (countOf skips ls)
 
 -- "Unless refused, header and last line stand"
 unfoldable pub listedText : Description → List ℕ → List ℕ

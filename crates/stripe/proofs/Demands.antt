@@ -17,7 +17,7 @@ use Rattle.words.proofs.BitXor.{xor-cancel}
 use Rattle.words.proofs.Parts.{put-length, drop-bytes}
 use Rattle.words.proofs.Xor.{xors-drop, xors-length, xors-cancel}
 use Rattle.guard.specs.Guard.{guard}
-use Rattle.interval.specs.Interval.{dataOf, fieldOf, storedGuard}
+use Rattle.field.specs.Field.{dataOf, fieldOf, storedGuard}
 use Rattle.answer.specs.Outcome.{Outcome, outcome}
 use Rattle.answer.specs.declared.Answer.{Answer}
 use Rattle.answer.specs.declared.Answer.the-variants as answers

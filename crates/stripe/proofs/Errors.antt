@@ -9,16 +9,15 @@ use lib.Bits.{bitXor, xor-zero-l, xor-zero-r, xor-self}
 use lib.Dec.{lit<}
 use lib.ListN.{length, take, drop, replicate, length-take, length-drop, length-replicate}
 use lib.Seq.{length-take-le}
-use Rattle.words.specs.BigEndian.{number, numberAt}
 use Rattle.words.specs.Parts.{Bytes}
 use Rattle.words.specs.Xor.{xors}
-use Rattle.words.proofs.BigEndian.{number-xors}
 use Rattle.words.proofs.BitXor.{xor-assoc, xor-swap}
-use Rattle.words.proofs.Parts.{take-bytes, drop-bytes, part-bytes}
-use Rattle.words.proofs.Xor.{xors-take, xors-drop, xors-self, xors-length, xors-bytes}
+use Rattle.words.proofs.Parts.{take-bytes, drop-bytes}
+use Rattle.words.proofs.Xor.{xors-take, xors-self, xors-length, xors-bytes}
 use Rattle.guard.specs.Guard.{guard}
 use Rattle.guard.proofs.Laws.{guard-xors}
-use Rattle.interval.specs.Interval.{dataOf, fieldOf, storedGuard}
+use Rattle.field.specs.Field.{dataOf, fieldOf, storedGuard}
+use Rattle.field.proofs.Laws.{stored-xors}
 use Rattle.parity.specs.Parity.{part, xorParts, parityOf}
 use Rattle.parity.proofs.Sums.{part-first, part-next}
 use Rattle.stripe.specs.Error.{errorAt, xorOver}
@@ -34,18 +33,6 @@ same-part : (at n : ℕ) (a b : List ℕ) → length a ≡ length b → length (
 same-part at n a b h = simp (length-take, length-drop, h)
 
 -- ---- the error of one interval
-stored-xors : (size : ℕ) (a b : List ℕ) → length a ≡ length b → Bytes a → Bytes b
-    → storedGuard (fieldOf size (xors a b)) ≡ bitXor (storedGuard (fieldOf size a)) (storedGuard (fieldOf size b))
-unfolding storedGuard fieldOf numberAt
-stored-xors size a b h p q =
-    let field : take 2 (take 8 (drop size (xors a b))) ≡ xors (take 2 (take 8 (drop size a))) (take 2 (take 8 (drop size b))) =
-    simp (xors-drop, xors-take) in
-    ap number field
-    ∙ number-xors (take 2 (take 8 (drop size a))) (take 2 (take 8 (drop size b)))
-    (simp (length-take, length-drop, h))
-    (take-bytes 2 (take 8 (drop size a)) (part-bytes size 8 a p))
-    (take-bytes 2 (take 8 (drop size b)) (part-bytes size 8 b q))
-
 pub error-xors : (size : ℕ) (a b : List ℕ) → length a ≡ length b → Bytes a → Bytes b → errorAt size (xors a b) ≡ bitXor (errorAt size a) (errorAt size b)
 unfolding errorAt dataOf
 error-xors size a b h p q =

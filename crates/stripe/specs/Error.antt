@@ -4,7 +4,7 @@ use mathlib.Core.List.{List}
 use lib.Bits.{bitXor}
 use lib.ListN.{drop}
 use Rattle.guard.specs.Guard.{guard}
-use Rattle.interval.specs.Interval.{dataOf, fieldOf, storedGuard}
+use Rattle.field.specs.Field.{dataOf, fieldOf, storedGuard}
 use Rattle.segment.specs.declared.Description.{Description}
 use Rattle.segment.specs.Segment.{sizeOf}
 use Rattle.segment.specs.Places.{intervalAt}

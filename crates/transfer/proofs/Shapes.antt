@@ -14,18 +14,23 @@ use Rattle.words.specs.Parts.{put}
 use Rattle.answer.specs.declared.Answer.the-variants as answers
 use Rattle.segment.specs.declared.Description.{Description}
 use Rattle.segment.specs.Segment.{Segment, intervalsOf, sizeOf, storedOf}
+use Rattle.segment.specs.Places.{spanOf}
 use Rattle.segment.proofs.Laws.{sizes, stored-intervals, stored-plain}
 use Rattle.command.specs.declared.Command.{Command}
+use Rattle.judge.specs.FirstOf.{firstOf}
 use Rattle.judge.specs.Judge.{Run, judgeBlocks}
-use Rattle.checks.specs.Checks.{rulesOf, startOf}
-use Rattle.checks.specs.Inserted.{marksOf}
+use Rattle.rules.specs.declared.Side.{Side}
+use Rattle.rules.specs.Rules.{rulesOf, startOf}
+use Rattle.rules.specs.Sides.{checkedOn}
+use Rattle.rules.proofs.Laws.{checks-all}
+use Rattle.rules.specs.Inserted.{marksOf}
 use Rattle.insertion.specs.declared.Marks.{Marks}
 use Rattle.blocks.specs.Blocks.{stripped}
 use Rattle.insertion.specs.Insertion.{storedBlocks}
 use Rattle.refusal.specs.Refusal.{movedOf}
 use Rattle.refusal.proofs.Rules.{moved-plain, moved-whole}
-use Rattle.transfer.specs.Transfer.{whole, spanOf, judgedIn, handed, received}
-use Rattle.transfer.specs.Inner.{Shaped, Placed, Fitted}
+use Rattle.transfer.specs.Transfer.{whole, judgedOn, handed, received}
+use Rattle.transfer.specs.Inner.{Shaped, Sided, Fitted}
 
 -- ---- whole blocks or user data
 pub whole-plain : (d : Description) (c : Command) → d .kind ≡ 0 → whole d c ≡ true
@@ -47,11 +52,11 @@ pub record Parted (d : Description) (c : Command) : Type 0 where
 
 -- ---- a transfer's blocks and its buffer
 module _ (d : Description) (c : Command) (s : Segment d) where
-  pub span-intervals : (d .kind ≡ 0 → ⊥) → c .length * (intervalsOf d * (sizeOf d + 8)) ≡ spanOf d c
+  pub span-intervals : (d .kind ≡ 0 → ⊥) → c .length * (intervalsOf d * (sizeOf d + 8)) ≡ spanOf d (c .length)
   unfolding spanOf
   span-intervals k = ap (λ (x : ℕ). c .length * x) (sym (stored-intervals d s k))
 
-  pub span-flat : (d .kind ≡ 0 → ⊥) → c .length * intervalsOf d * (sizeOf d + 8) ≡ spanOf d c
+  pub span-flat : (d .kind ≡ 0 → ⊥) → c .length * intervalsOf d * (sizeOf d + 8) ≡ spanOf d (c .length)
   span-flat k = mul-assoc (c .length) (intervalsOf d) (sizeOf d + 8) ∙ span-intervals k
 
   pub moved-intervals : c .code ≡ 0 → c .length * (intervalsOf d * sizeOf d) ≡ movedOf d c
@@ -60,11 +65,11 @@ module _ (d : Description) (c : Command) (s : Segment d) where
   pub moved-flat : c .code ≡ 0 → c .length * intervalsOf d * sizeOf d ≡ movedOf d c
   moved-flat z = mul-assoc (c .length) (intervalsOf d) (sizeOf d) ∙ moved-intervals z
 
-  pub moved-span : (c .code ≡ 0 → ⊥) → movedOf d c ≡ spanOf d c
+  pub moved-span : (c .code ≡ 0 → ⊥) → movedOf d c ≡ spanOf d (c .length)
   unfolding spanOf
   moved-span n = moved-whole d c n
 
-  pub moved-plain-span : d .kind ≡ 0 → c .code ≡ 0 → movedOf d c ≡ spanOf d c
+  pub moved-plain-span : d .kind ≡ 0 → c .code ≡ 0 → movedOf d c ≡ spanOf d (c .length)
   unfolding spanOf
   moved-plain-span k z = moved-plain d c z ∙ ap (λ (x : ℕ). c .length * x) (sym (stored-plain d k))
 
@@ -72,32 +77,31 @@ module _ (d : Description) (c : Command) (s : Segment d) where
   intervals-few h = mul-le-mul {n₂ = 65536} {m₂ = 8} h (sizes d s .intervals-most)
 
 -- ---- judging
-pub judged-plain : (d : Description) (c : Command) (s : List ℕ) → d .kind ≡ 0 → judgedIn d c s ≡ answers.Good
-unfolding judgedIn
-judged-plain d c s k = rw (eq-eqb (d .kind) 0 k)
+module _ (side : Side) (d : Description) (c : Command) (s : List ℕ) where
+  pub judged-none : checkedOn side d c ≡ 0 → judgedOn side d c s ≡ answers.Good
+  unfolding judgedOn judgeBlocks firstOf
+  judged-none e = rw e
 
-pub judged-fields : (d : Description) (c : Command) (s : List ℕ) → (d .kind ≡ 0 → ⊥) → judgedIn d c s ≡ judgeBlocks (rulesOf d c) (c .length) (startOf d c) s
-unfolding judgedIn
-judged-fields d c s k = rw (ne-eqb (d .kind) 0 k)
-
-pub run : (d : Description) (c : Command) (s : List ℕ) → Shaped d c (length s) → (d .kind ≡ 0 → ⊥) → Run (rulesOf d c) (c .length) (startOf d c) s
-unfolding rulesOf startOf
-run d c s h k =
-    record {
-      whole = span-intervals d c (h .described) k ∙ sym (h .long);
-      addresses = h .end;
-      intervals = omega (arith, intervals-few d c (h .described) (h .few));
-      few = sizes d (h .described) .intervals-most;
-      size = sizes d (h .described) .size-most;
-    }
+  pub run : Shaped d c → Sided side d c (length s) → (checkedOn side d c ≡ 0 → ⊥) → Run (rulesOf side d c) (checkedOn side d c) (startOf d c) s
+  unfolding rulesOf startOf
+  run h long n =
+      let k = checks-all side d c n in
+      rw (k .all)
+      (record {
+        whole = span-intervals d c (h .described) (k .fields) ∙ sym (long n);
+        addresses = h .end;
+        intervals = omega (arith, intervals-few d c (h .described) (h .few));
+        few = sizes d (h .described) .intervals-most;
+        size = sizes d (h .described) .size-most;
+      })
 
 -- ---- what the test of `whole` tells
 module _ (d : Description) (c : Command) where
-  pub moved-when-whole : Segment d → (d .kind ≡ 0 → c .code ≡ 0) → whole d c ≡ true → movedOf d c ≡ spanOf d c
+  pub moved-when-whole : Segment d → (d .kind ≡ 0 → c .code ≡ 0) → whole d c ≡ true → movedOf d c ≡ spanOf d (c .length)
   unfolding whole
   moved-when-whole s p e = by (eqb (d .kind) 0) refl (eqb (c .code) 0) refl e
     where
-      by : (k : Bool) → eqb (d .kind) 0 ≡ k → (z : Bool) → eqb (c .code) 0 ≡ z → (k || not z) ≡ true → movedOf d c ≡ spanOf d c
+      by : (k : Bool) → eqb (d .kind) 0 ≡ k → (z : Bool) → eqb (c .code) 0 ≡ z → (k || not z) ≡ true → movedOf d c ≡ spanOf d (c .length)
       by true k true z e = moved-plain-span d c s (eqb-true (d .kind) 0 k) (eqb-true (c .code) 0 z)
       by true k false z e = absurd (eqb-false (c .code) 0 z (p (eqb-true (d .kind) 0 k)))
       by false k true z e = never e
@@ -137,23 +141,23 @@ module _ (d : Description) (c : Command) where
 
 -- ---- the parts that strip, store and insert are handed
 module _ (d : Description) (c : Command) (size n : ℕ) (z : size ≡ sizeOf d) (i : n ≡ intervalsOf d) where
-  pub strip-fits : (s b : ℕ) → Shaped d c s → Fitted d c b → Parted d c → (c .length * n * (size + 8) ≡ s) × (c .length * n * size ≡ b)
-  strip-fits s b h f p =
-      (rw (z, i) (span-flat d c (h .described) (p .fields) ∙ sym (h .long)), rw (z, i) (moved-flat d c (h .described) (p .zero) ∙ sym (f .room)))
+  pub strip-fits : (s b : ℕ) → Shaped d c → s ≡ spanOf d (c .length) → Fitted d c b → Parted d c → (c .length * n * (size + 8) ≡ s) × (c .length * n * size ≡ b)
+  strip-fits s b h l f p =
+      (rw (z, i) (span-flat d c (h .described) (p .fields) ∙ sym l), rw (z, i) (moved-flat d c (h .described) (p .zero) ∙ sym (f .room)))
 
-  pub insert-fits : (at s b : ℕ) → Placed d c at s → Fitted d c b → Parted d c
+  pub insert-fits : (at s b : ℕ) → Shaped d c → at + spanOf d (c .length) ≤ s → Fitted d c b → Parted d c
       → (c .length * (n * size) ≡ b) × (at + c .length * (n * (size + 8)) ≤ s) × ((size ≤ 4096) × (n ≤ 8))
-  insert-fits at s b h f p = (
+  insert-fits at s b h l f p = (
     rw (z, i) (moved-intervals d c (h .described) (p .zero) ∙ sym (f .room)),
-    rw (z, i, span-intervals d c (h .described) (p .fields)) (h .fits),
+    rw (z, i, span-intervals d c (h .described) (p .fields)) l,
     (rw z (sizes d (h .described) .size-most), rw i (sizes d (h .described) .intervals-most)),
   )
 
-pub store-fits : (d : Description) (c : Command) (stored at s b : ℕ) → stored ≡ storedOf d → Placed d c at s → Fitted d c b → whole d c ≡ true
+pub store-fits : (d : Description) (c : Command) (stored at s b : ℕ) → stored ≡ storedOf d → Shaped d c → at + spanOf d (c .length) ≤ s → Fitted d c b → whole d c ≡ true
     → (c .length * stored ≡ b) × (at + c .length * stored ≤ s)
 unfolding spanOf
-store-fits d c stored at s b e h f w =
-    (rw e (sym (moved-when-whole d c (h .described) (f .plain) w) ∙ sym (f .room)), rw e (h .fits))
+store-fits d c stored at s b e h l f w =
+    (rw e (sym (moved-when-whole d c (h .described) (f .plain) w) ∙ sym (f .room)), rw e l)
 
 pub marks-step : (d : Description) (c : Command) (m : Marks) → m ≡ marksOf d c → m .step ≤ 1
 unfolding marksOf

@@ -1,13 +1,9 @@
-// Runs the vectors and the cases of document 01, 'Both sides of the line', and prints what comes of each.
+// Runs the guards and the parity of document 01, 'Both sides of the line', and prints what comes of each.
 use answer::Answer;
 use segment::Description;
 
 fn main() {
     guards();
-    reads();
-    reads_at_the_ends();
-    refusals();
-    writes();
     parity();
 }
 
@@ -42,124 +38,26 @@ fn word(n: u16) {
     io::print_hex(1, n as u64, 4);
 }
 
-// READ (10) on M. A command's bytes are operation, protect byte (code 001 is 20h), address, group, length, control.
-fn reads() {
-    on_m(
-        b"READ (10) at 7, T 2, code 001",
-        b"\x28\x20\x00\x00\x00\x07\x00\x00\x02\x00",
-        &mut [0; 32],
-    );
-    on_m(
-        b"READ (10) at 7, T 2, code 011",
-        b"\x28\x60\x00\x00\x00\x07\x00\x00\x02\x00",
-        &mut [0; 32],
-    );
-    on_m(
-        b"READ (10) at 7, T 2, code 100",
-        b"\x28\x80\x00\x00\x00\x07\x00\x00\x02\x00",
-        &mut [0; 32],
-    );
-}
-
-// Cases of READ on M, at its last block and past its ends.
-fn reads_at_the_ends() {
-    on_m(
-        b"READ (10) at 9, T 1, code 001",
-        b"\x28\x20\x00\x00\x00\x09\x00\x00\x01\x00",
-        &mut [0; 16],
-    );
-    on_m(
-        b"READ (10) at 10, T 0",
-        b"\x28\x00\x00\x00\x00\x0a\x00\x00\x00\x00",
-        &mut [0; 0],
-    );
-    on_m(
-        b"READ (10) at 10, T 1",
-        b"\x28\x00\x00\x00\x00\x0a\x00\x00\x01\x00",
-        &mut [0; 8],
-    );
-    on_m(
-        b"READ (10) at 6, T 0",
-        b"\x28\x00\x00\x00\x00\x06\x00\x00\x00\x00",
-        &mut [0; 0],
-    );
-}
-
-// Commands on M that are refused before a block is looked at.
-fn refusals() {
-    on_m(
-        b"READ (10) with code 110",
-        b"\x28\xc0\x00\x00\x00\x07\x00\x00\x01\x00",
-        &mut [0; 16],
-    );
-    on_m(
-        b"READ (32) of 32 bytes",
-        b"\x7f\x00\x00\x00\x00\x00\x00\x18\x00\x09\x00\x00\x00\x00\x00\x00\x00\x00\x00\x07\x00\x00\x00\x07\x00\x00\x00\x00\x00\x00\x00\x01",
-        &mut [0; 8],
-    );
-    on_m(
-        b"operation 00h",
-        b"\x00\x00\x00\x00\x00\x00\x00\x00\x00\x00",
-        &mut [0; 0],
-    );
-    on_m(
-        b"READ (10) of 11 bytes",
-        b"\x28\x00\x00\x00\x00\x07\x00\x00\x01\x00\x00",
-        &mut [0; 8],
-    );
-}
-
-fn writes() {
-    // M's third block: its application tag FFFFh is not an escape in incoming data
-    on_m(
-        b"WRITE (10) of M's third block to 9, code 001",
-        b"\x2a\x20\x00\x00\x00\x09\x00\x00\x01\x00",
-        &mut [0, 0, 0, 0, 0, 0, 0, 0x03, 0, 0, 0xFF, 0xFF, 0, 0, 0, 0],
-    );
-    execute_line(
-        b"WRITE (32) of zero data, first tag FFFFFFFFh",
-        Description {
-            kind: 2,
-            block: 8,
-            exponent: 1,
-            first: 0,
-            count: 1,
-            ato: 0,
-        },
-        &mut [0xFF; 24],
-        b"\x7f\x00\x00\x00\x00\x00\x00\x18\x00\x0b\x00\x00\x00\x00\x00\x00\x00\x00\x00\x00\xff\xff\xff\xff\x00\x00\x00\x00\x00\x00\x00\x01",
-        &mut [0; 8],
-    );
-}
-
-// A command on M, whose ATO is 0.
-fn on_m(name: &[u8], command: &[u8], buffer: &mut [u8]) {
+// Members: M's first block, and one whose reference tag is 7 too.
+fn parity() {
     let d = Description {
         kind: 1,
         block: 8,
         exponent: 0,
         first: 7,
-        count: 3,
+        count: 1,
         ato: 0,
     };
-    let mut m =
-        *b"\x00\x00\x00\x00\x00\x00\x00\x01\x8b\xb7\x00\x00\x00\x00\x00\x07\x00\x00\x00\x00\x00\x00\x00\x02\x9c\xd9\x00\x00\x00\x00\x00\x07\x00\x00\x00\x00\x00\x00\x00\x03\x00\x00\xff\xff\x00\x00\x00\x00";
-    execute_line(name, d, &mut m, command, buffer);
-}
-
-// What is asked, the answer's number, address and interval, and the lent bytes afterwards.
-fn execute_line(
-    name: &[u8],
-    d: Description,
-    segment: &mut [u8],
-    command: &[u8],
-    buffer: &mut [u8],
-) {
-    let a = execute::execute(d, segment, command, buffer);
-    io::write_all(1, name);
+    let mut out = [0; 16];
+    let a = stripe::make(
+        d,
+        2,
+        b"\x00\x00\x00\x00\x00\x00\x00\x01\x8b\xb7\x00\x00\x00\x00\x00\x07\x00\x00\x00\x00\x00\x00\x00\x02\x9c\xd9\x00\x00\x00\x00\x00\x07",
+        &mut out,
+    );
+    io::write_all(1, b"parity of two members");
     answer_line(a);
-    bytes_line(b"  segment ", segment);
-    bytes_line(b"  buffer  ", buffer);
+    bytes_line(b"  parity  ", &out);
 }
 
 fn answer_line(a: Answer) {
@@ -188,26 +86,4 @@ fn hexadecimal(bytes: &[u8]) {
 
 fn wide(b: u8) -> u64 {
     b as u64
-}
-
-// Members: M's first block, and one whose reference tag is 7 too.
-fn parity() {
-    let d = Description {
-        kind: 1,
-        block: 8,
-        exponent: 0,
-        first: 7,
-        count: 1,
-        ato: 0,
-    };
-    let mut out = [0; 16];
-    let a = stripe::make(
-        d,
-        2,
-        b"\x00\x00\x00\x00\x00\x00\x00\x01\x8b\xb7\x00\x00\x00\x00\x00\x07\x00\x00\x00\x00\x00\x00\x00\x02\x9c\xd9\x00\x00\x00\x00\x00\x07",
-        &mut out,
-    );
-    io::write_all(1, b"parity of two members");
-    answer_line(a);
-    bytes_line(b"  parity  ", &out);
 }

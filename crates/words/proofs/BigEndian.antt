@@ -1,21 +1,21 @@
 -- The laws of numbers in bytes, over any number of bytes.
 -- Assumes nothing.
-use mathlib.Core.Path.{_≡_, refl, sym, ap, _∙_}
-use mathlib.Core.List.{List, [], _∷_, _++_, append-assoc}
+use mathlib.Core.Path.{_≡_, refl, sym, ap, ap₂, _∙_}
+use mathlib.Core.List.{List, [], _∷_, _++_, append-assoc, append-nil}
 use Prim.Native.Nat.{ℕ, zero, suc, _+_, _-_, _*_, _/_, _%_, _^_, _<_, _≤_}
-use native.Mathlib.Nat.{suc-inj, pow-suc, add-zero, add-suc, suc-add, zero-add, lt-of-lt-of-le, div-lt-iff-lt-mul, div-add-mod', le-refl, pow-le-pow-right}
+use native.Mathlib.Nat.{suc-inj, pow-suc, add-zero, add-suc, suc-add, zero-add, lt-of-lt-of-le, div-lt-iff-lt-mul, div-add-mod', mod-lt, le-refl, pow-le-pow-right}
 use native.Mathlib.Numerals.{add-one}
 use native.Mathlib.Omega.{arith}
 use lib.Arith.{digits-lt}
 use lib.Bits.{bitXor, xor-block}
 use lib.Dec.{lit<}
 use lib.ListN.{length, getD, take, drop, set, length-append, length-set, length-take, length-drop, drop-of-length-le}
-use lib.Seq.{drop-set-lt, getD-set-same, drop-cons}
+use lib.Seq.{drop-set-lt, getD-set-same, drop-cons, take-at, drop-at}
 use Rattle.words.specs.BigEndian.{numberFrom, number, numberAt, bytes}
 use borrow.Rule.Slice.PartMut.{midOf, putMid}
 use Rattle.words.specs.Parts.{Bytes, put}
 use Rattle.words.specs.Xor.{xors}
-use Rattle.words.proofs.Parts.{drop-next, part-at, part-bytes, put-back}
+use Rattle.words.proofs.Parts.{drop-next, part-at, part-bytes, append-bytes, put-back}
 
 -- ---- reading
 
@@ -71,6 +71,15 @@ unfolding bytes
 bytes-length zero n = refl
 bytes-length (suc w) n = length-append (bytes w (n / 256)) (n % 256 ∷ []) ∙ rw (bytes-length w (n / 256)) (add-one w)
 
+one-byte : (b : ℕ) → b < 256 → Bytes (b ∷ [])
+one-byte b h zero = h
+one-byte b h (suc i) = lit< tt
+
+pub bytes-bytes : (w n : ℕ) → Bytes (bytes w n)
+unfolding bytes
+bytes-bytes zero n = λ i. lit< tt
+bytes-bytes (suc w) n = append-bytes (bytes w (n / 256)) _ (bytes-bytes w (n / 256)) (one-byte (n % 256) (mod-lt n (lit< tt)))
+
 -- the lowest byte that is left, stored before what is done
 pub write-next : (d whole : List ℕ) (i n : ℕ) → 0 < i → i ≤ length d → bytes i n ++ drop i d ≡ whole → bytes (i - 1) (n / 256) ++ drop (i - 1) (set d (i - 1) (n % 256)) ≡ whole
 unfolding bytes
@@ -90,7 +99,41 @@ number-bytes (suc w) n h =
     ∙ ap (λ (k : ℕ). k * 256 + n % 256) (number-bytes w (n / 256) (div-lt-iff-lt-mul (lit< tt) .1 (rw pow-suc at h)))
     ∙ div-add-mod' n 256
 
+-- what is read is written back
+high-byte : (n b : ℕ) → b < 256 → (n * 256 + b) / 256 ≡ n
+high-byte n b h = omega arith
+
+low-byte : (n b : ℕ) → b < 256 → (n * 256 + b) % 256 ≡ b
+low-byte n b h = omega arith
+
+bytes-numberFrom : (s : List ℕ) (i n : ℕ) → Bytes s → bytes (i + length s) (numberFrom n s) ≡ bytes i n ++ s
+unfolding numberFrom bytes
+bytes-numberFrom [] i n p = rw (add-zero, append-nil)
+bytes-numberFrom (b ∷ s) i n p =
+    let longer : i + suc (length s) ≡ suc i + length s = omega arith in
+    ap (λ (k : ℕ). bytes k (numberFrom (n * 256 + b) s)) longer
+    ∙ bytes-numberFrom s (suc i) (n * 256 + b) (λ j. p (suc j))
+    ∙ ap₂ (λ (h l : ℕ). (bytes i h ++ (l ∷ [])) ++ s) (high-byte n b (p 0)) (low-byte n b (p 0))
+    ∙ append-assoc (bytes i n) (b ∷ []) s
+
+pub bytes-number : (w : ℕ) (s : List ℕ) → length s ≡ w → Bytes s → bytes w (number s) ≡ s
+unfolding number bytes
+bytes-number w s e p = ap (λ (k : ℕ). bytes k (number s)) (sym e ∙ sym (zero-add (length s))) ∙ bytes-numberFrom s 0 0 p
+
 -- ---- w bytes from a place on
+
+-- a number that was written at a place is the number read there
+pub number-there : (at w n : ℕ) (a b : List ℕ) → length a ≡ at → n < 256 ^ w → numberAt at w (a ++ (bytes w n ++ b)) ≡ n
+unfolding numberAt
+number-there at w n a b e h =
+    ap (λ (l : List ℕ). number (take w l)) (drop-at a (bytes w n ++ b) at e)
+    ∙ ap number (take-at (bytes w n) b w (bytes-length w n)) ∙ number-bytes w n h
+
+-- and the number that is read at a place is written there
+pub bytes-there : (at w : ℕ) (s : List ℕ) → at + w ≤ length s → Bytes s → bytes w (numberAt at w s) ≡ take w (drop at s)
+unfolding numberAt
+bytes-there at w s h p = bytes-number w (take w (drop at s)) (simp (length-take, length-drop) (omega arith)) (part-bytes at w s p)
+
 pub part-length : (at w : ℕ) (s : List ℕ) → at + w ≤ length s → length (take (at + w - at) (drop at s)) ≡ w
 part-length at w s h = simp (length-take, length-drop) (omega arith)
 

@@ -3,6 +3,7 @@ pub mod Xor
 pub mod BigEndian
 pub mod Parts
 pub mod Every
+pub mod Turns
 pub mod Runs
 pub mod Choice
 pub mod Coincide

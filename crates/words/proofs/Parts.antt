@@ -1,14 +1,14 @@
 -- Laws on parts of lists: what a loop that goes through a list from the front needs, and what was put at a place.
 -- Assumes nothing.
-use mathlib.Core.Path.{_≡_, sym, ap, _∙_}
+use mathlib.Core.Path.{_≡_, refl, sym, ap, _∙_}
 use mathlib.Core.List.{List, [], _∷_, _++_, append-nil, append-assoc}
 use Prim.Native.Nat.{ℕ, zero, suc, _+_, _-_, _*_, _<_, _≤_}
-use native.Mathlib.Nat.{add-comm, add-sub-cancel-left, suc-mul}
+use native.Mathlib.Nat.{add-comm, add-sub-cancel-left, suc-mul, suc-add, zero-add}
 use native.Mathlib.Numerals.{add-one}
 use native.Mathlib.Omega.{arith}
 use lib.Dec.{lit<}
 use lib.ListN.{length, getD, take, drop, set, length-append, length-take, length-drop}
-use lib.Seq.{drop-cons, drop-drop, take-suc-set, take-all, getD-drop}
+use lib.Seq.{drop-cons, drop-drop, take-suc-set, take-all, take-nil, getD-drop}
 use borrow.Rule.Slice.PartMut.{putMid, post-is}
 use Rattle.words.specs.Parts.{put, Bytes}
 
@@ -33,6 +33,12 @@ one-more k P = suc-mul k P ∙ add-comm (k * P) P
 pub drop-more : (P k : ℕ) (s : List ℕ) → drop (k * P) (drop P s) ≡ drop (suc k * P) s
 drop-more P k s = drop-drop (k * P) P s ∙ ap (λ (n : ℕ). drop n s) (sym (one-more k P))
 
+pub drop-take : (n m : ℕ) (s : List ℕ) → drop n (take (n + m) s) ≡ take m (drop n s)
+drop-take zero m s = rw zero-add refl
+drop-take (suc n) m [] = simp take-nil
+drop-take (suc n) m (x ∷ s) = rw suc-add (drop-take n m s)
+
+-- ---- parts of bytes are bytes, and so are bytes end to end
 pub take-bytes : (n : ℕ) (s : List ℕ) → Bytes s → Bytes (take n s)
 take-bytes zero s p i = lit< tt
 take-bytes (suc n) [] p i = lit< tt
@@ -44,6 +50,11 @@ drop-bytes n s p i = rw getD-drop (p (n + i))
 
 pub part-bytes : (at n : ℕ) (s : List ℕ) → Bytes s → Bytes (take n (drop at s))
 part-bytes at n s p = take-bytes n (drop at s) (drop-bytes at s p)
+
+pub append-bytes : (a b : List ℕ) → Bytes a → Bytes b → Bytes (a ++ b)
+append-bytes [] b p q i = q i
+append-bytes (x ∷ a) b p q zero = p 0
+append-bytes (x ∷ a) b p q (suc i) = append-bytes a b (λ j. p (suc j)) q i
 
 -- ---- what was put at a place
 pub put-length : (at : ℕ) (new old : List ℕ) → at + length new ≤ length old → length (put at new old) ≡ length old

@@ -1,6 +1,6 @@
 -- The laws of what is made piece by piece: a loop fills a list with the pieces, one a turn.
 -- Assumes nothing.
-use mathlib.Core.Path.{_≡_, sym, ap, ap₂, _∙_}
+use mathlib.Core.Path.{_≡_, refl, sym, ap, ap₂, _∙_}
 use mathlib.Core.List.{List, _++_, append-assoc}
 use Prim.Native.Nat.{ℕ, zero, suc, _+_, _-_, _*_, _<_, _≤_}
 use native.Mathlib.Nat.{suc-mul, zero-mul}
@@ -10,6 +10,7 @@ use lib.Seq.{drop-drop, take-at, length-take-le}
 use Rattle.words.specs.Parts.{put}
 use Rattle.words.specs.Runs.{runs}
 use Rattle.words.proofs.Parts.{store-end}
+use Rattle.words.proofs.Turns.{after, two-of}
 
 -- of k pieces of p elements from i on, the first ends within the whole, and the others follow it
 pub peel-within : (k i p n : ℕ) → 0 < k → i + k * p ≡ n → i + p ≤ n
@@ -45,3 +46,9 @@ module _ {A : Type 0} (piece : A → List ℕ → List ℕ) (next : A → A) (P 
   unfolding runs
   fill-end zero a i t src dst whole h l e = store-end dst whole a l e
   fill-end (suc k) a i t src dst whole h l e = absurd (omega arith)
+
+  -- k + m pieces are k, and then the m behind them
+  pub runs-two : (k m : ℕ) (t : A) (s : List ℕ) → runs piece next P (k + m) t s ≡ runs piece next P k t s ++ runs piece next P m (after next k t) (drop (k * P) s)
+  unfolding runs
+  runs-two =
+      two-of piece next P (runs piece next P) _++_ (λ k t s. refl) _++_ (λ t s b. refl) (λ c a b. sym (append-assoc c a b))

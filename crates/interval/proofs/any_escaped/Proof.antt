@@ -7,9 +7,10 @@ use Prim.Native.Nat.{ℕ, _+_, _*_, _-_, _<_, _≤_}
 use native.Mathlib.Nat.{zero-add, add-assoc}
 use native.Mathlib.Omega.{arith}
 use lib.ListN.{length, take, drop}
+use Rattle.field.proofs.Laws.{interval-within, interval-rest, field-part}
 use Rattle.interval.specs.declared.Escape.{Escape}
 use Rattle.interval.specs.Interval.{escapes, anyEscapes}
-use Rattle.interval.proofs.IntervalLaws.{interval-within, interval-rest, field-part, any-next, any-stop, any-end}
+use Rattle.interval.proofs.IntervalLaws.{any-next, any-stop, any-end}
 use borrow.Author.Needs.{needs}
 use Rattle.interval.proofs.any_escaped.Statement.{statement}
 use Rattle.interval.proofs.any_escaped.Tie as tie

@@ -7,10 +7,10 @@ use Prim.Native.Nat.{ℕ}
 use lib.Dec.{eqb}
 use borrow.Author.Needs.{needs}
 use borrow.Author.Tests.{eq-eqb, ne-eqb}
-use Rattle.words.specs.BigEndian.{numberAt}
+use Rattle.field.specs.Field.{storedApplication, storedReference}
 use Rattle.interval.specs.declared.Escape.{Escape}
 use Rattle.interval.specs.declared.Escape.the-variants.{Never, Tag, Both}
-use Rattle.interval.specs.Interval.{escapes, storedApplication, storedReference}
+use Rattle.interval.specs.Interval.{escapes}
 use Rattle.interval.proofs.escaped.Statement.{statement}
 use Rattle.interval.proofs.escaped.Tie as tie
 
@@ -19,17 +19,17 @@ module _ (e : Escape) (f : List ℕ) where
   unfolding escapes
   none m = rw m refl
 
-  module _ (n : ℕ) (a : n ≡ numberAt 2 2 f) where
+  module _ (n : ℕ) (a : n ≡ storedApplication f) where
     tagged : e ≡ Tag → eqb n 0xFFFF ≡ escapes e f
-    unfolding escapes storedApplication
+    unfolding escapes
     tagged m = rw (m, a) refl
 
     half : e ≡ Both → (n ≡ 0xFFFF → ⊥) → false ≡ escapes e f
-    unfolding escapes storedApplication
+    unfolding escapes
     half m d = rw (m, ← a, ne-eqb n 0xFFFF d) refl
 
-    both : (m : ℕ) → e ≡ Both → n ≡ 0xFFFF → m ≡ numberAt 4 4 f → eqb m 0xFFFFFFFF ≡ escapes e f
-    unfolding escapes storedApplication storedReference
+    both : (m : ℕ) → e ≡ Both → n ≡ 0xFFFF → m ≡ storedReference f → eqb m 0xFFFFFFFF ≡ escapes e f
+    unfolding escapes
     both m b s w = rw (b, ← a, eq-eqb n 0xFFFF s, w) refl
 
 returns : tie.Need-returns

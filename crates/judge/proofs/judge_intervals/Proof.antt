@@ -4,7 +4,7 @@ use mathlib.Core.Path.{_≡_, refl, sym, ap₂, _∙_}
 use mathlib.Core.Bool.{Bool, true, false, not}
 use mathlib.Core.List.{List}
 use Prim.Native.Nat.{ℕ, _+_, _*_, _-_, _^_, _<_, _≤_}
-use native.Mathlib.Nat.{zero-add, one-mul, add-assoc}
+use native.Mathlib.Nat.{zero-add, add-assoc}
 use native.Mathlib.Omega.{arith}
 use lib.ListN.{length, take, drop}
 use borrow.Author.Tests.{not-true, not-false}
@@ -13,29 +13,24 @@ use Rattle.answer.specs.declared.Answer.{Answer}
 use Rattle.interval.specs.declared.Rules.{Rules}
 use Rattle.interval.specs.declared.Place.{Place}
 use Rattle.interval.specs.Interval.{judgePieces, judgeInterval}
-use Rattle.interval.proofs.IntervalLaws.{interval-within, interval-rest, data-part, field-part}
+use Rattle.field.proofs.Laws.{interval-within, interval-rest, data-part, field-part}
 use Rattle.judge.specs.FirstOf.{firstOf}
-use Rattle.judge.specs.Judge.{judgeIntervals, nextInterval, Run}
+use Rattle.judge.specs.Judge.{judgeIntervals, nextInterval, Stretch}
 use Rattle.judge.proofs.FirstLaws.{first-next, first-stop, first-end}
 use borrow.Author.Needs.{needs}
 use Rattle.judge.proofs.judge_intervals.Statement.{statement}
 use Rattle.judge.proofs.judge_intervals.Tie as tie
 
-record Judging (r : Rules) (p : Place) (s : List ℕ) (left : ℕ) (here : Place) (i : ℕ) : Type 0 where
+record Judging (r : Rules) (k : ℕ) (p : Place) (s : List ℕ) (left : ℕ) (here : Place) (i : ℕ) : Type 0 where
   from : i + left * (r .size + 8) ≡ length s
   room : here .interval + left ≤ 2 ^ 32
-  same : firstOf (judgeInterval r) nextInterval (r .size + 8) left here (drop i s) ≡ judgeIntervals r (r .intervals) p s
+  same : firstOf (judgeInterval r) nextInterval (r .size + 8) left here (drop i s) ≡ judgeIntervals r k p s
 
-begins : {r : Rules} {p : Place} {s : List ℕ} → Run r 1 p s → Judging r p s (r .intervals) p 0
+begins : {r : Rules} {k : ℕ} {p : Place} {s : List ℕ} → Stretch r k p s → Judging r k p s k p 0
 unfolding judgeIntervals
-begins run =
-    record {
-      from = zero-add _ ∙ sym (one-mul _) ∙ run .whole;
-      room = rw one-mul at (run .intervals);
-      same = refl;
-    }
+begins run = record { from = zero-add _ ∙ run .whole; room = run .intervals; same = refl }
 
-module _ {r : Rules} {p : Place} {s : List ℕ} {left : ℕ} {here : Place} {i : ℕ} (g : Judging r p s left here i) (h : 0 < left) where
+module _ {r : Rules} {k : ℕ} {p : Place} {s : List ℕ} {left : ℕ} {here : Place} {i : ℕ} (g : Judging r k p s left here i) (h : 0 < left) where
   within : i + r .size + 8 ≤ length s
   within = interval-within left i (r .size) (length s) h (g .from)
 
@@ -45,10 +40,10 @@ module _ {r : Rules} {p : Place} {s : List ℕ} {left : ℕ} {here : Place} {i :
     unfolding judgeInterval
     judged = m ∙ ap₂ (judgePieces r here) (data-part i (r .size) s) (field-part i (r .size) s)
 
-    stop : not b ≡ true → a ≡ judgeIntervals r (r .intervals) p s
+    stop : not b ≡ true → a ≡ judgeIntervals r k p s
     stop w = first-stop (judgeInterval r) nextInterval (r .size + 8) left i here s a _ h judged (sym t ∙ not-true b w) (g .same)
 
-    turn : {there : Place} → not b ≡ false → there ≡ nextInterval here → Judging r p s (left - 1) there (i + r .size + 8)
+    turn : {there : Place} → not b ≡ false → there ≡ nextInterval here → Judging r k p s (left - 1) there (i + r .size + 8)
     turn o e =
         rw e
         (record {
@@ -60,10 +55,10 @@ module _ {r : Rules} {p : Place} {s : List ℕ} {left : ℕ} {here : Place} {i :
         })
 
 abbrev Inv-loop : tie.InvT-loop
-Inv-loop t r s size left₀ here₀ i₀ left here i = Judging r here₀ s left here i
+Inv-loop t r count s size left₀ here₀ i₀ left here i = Judging r left₀ here₀ s left here i
 
 abbrev μ-loop : tie.MeasureT-loop
-μ-loop t r s size left₀ here₀ i₀ left here i = left
+μ-loop t r count s size left₀ here₀ i₀ left here i = left
 
 loop-holds : tie.Need-loop-holds Inv-loop μ-loop
 loop-holds c = search begins

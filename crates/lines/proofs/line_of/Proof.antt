@@ -6,7 +6,7 @@ use Rattle.lines.proofs.line_of.Statement.{statement}
 use Rattle.lines.proofs.line_of.Tie as tie
 
 returns : tie.Need-returns
-returns c = line-made _ _ _ _ _ _ _ _ _ (c .before .before .before .before .before .before .pre .1) (c .before .before .before .read2 .ensures) (c .before .before .read22 .ensures) (c .before .read4 .ensures) (c .state-of .ensures)
+returns c = line-made _ _ _ _ _ _ _ _ _ (c .before .before .before .before .before .before .pre .1) (c .before .before .before .stored-guard .ensures) (c .before .before .stored-application .ensures) (c .before .stored-reference .ensures) (c .state-of .ensures)
 
 pub line-of-spec : {M : Type 1} → statement M
 line-of-spec =

@@ -4,9 +4,9 @@ use mathlib.Core.Path.{refl}
 use native.Mathlib.Omega.{arith}
 use lib.Dec.{lit≤}
 use Rattle.text.proofs.Writing.{written-length}
-use Rattle.listing.proofs.SheetLaws.{first-room}
+use Rattle.sheet.proofs.SheetLaws.{first-room}
 use Rattle.listing.proofs.ListingLaws.{lines-end, listed-written}
-use Rattle.lines.specs.Lines.{headerText}
+use Rattle.listing.specs.Listing.{headerText}
 use Rattle.listing.proofs.print_listed.Statement.{statement}
 use Rattle.listing.proofs.print_listed.Tie as tie
 

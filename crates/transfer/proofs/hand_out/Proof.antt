@@ -8,10 +8,10 @@ use Rattle.transfer.proofs.hand_out.Statement.{statement}
 use Rattle.transfer.proofs.hand_out.Tie as tie
 
 copy-requires : tie.Need-copy-requires
-copy-requires c κs = c .before .before .before .before .before .pre .0 .long ∙ sym (moved-when-whole _ _ (c .before .before .before .before .before .pre .0 .described) (c .before .before .before .before .before .pre .1 .plain) (sym (c .before .before .moved-whole .ensures) ∙ c .before .if1 .taken)) ∙ sym (c .before .before .before .before .before .pre .1 .room)
+copy-requires c κs = c .before .before .before .before .before .pre .1 .0 ∙ sym (moved-when-whole _ _ (c .before .before .before .before .before .pre .0 .described) (c .before .before .before .before .before .pre .1 .1 .plain) (sym (c .before .before .whole .ensures) ∙ c .before .if1 .taken)) ∙ sym (c .before .before .before .before .before .pre .1 .1 .room)
 
 returns : tie.Need-returns
-returns c = c .before .before .copy .ensures ∙ sym (handed-whole _ _ _ (sym (c .before .before .before .before .before .moved-whole .ensures) ∙ c .before .before .before .before .if1 .taken))
+returns c = c .before .before .copy .ensures ∙ sym (handed-whole _ _ _ (sym (c .before .before .before .before .before .whole .ensures) ∙ c .before .before .before .before .if1 .taken))
 
 size-requires : tie.Need-size-requires
 size-requires c κs = c .before .before .before .before .pre .0 .described
@@ -23,10 +23,10 @@ mul-count : tie.Need-mul-count
 mul-count c = rw (c .intervals .ensures) (omega (arith, intervals-few (c .before .before .before .before .before .before .args .d) (c .before .before .before .before .before .before .args .c) (c .before .before .before .before .before .before .pre .0 .described) (c .before .before .before .before .before .before .pre .0 .few)))
 
 strip-requires : tie.Need-strip-requires
-strip-requires c κs = let f = strip-fits _ (c .before .before .before .before .before .before .before .args .c) _ _ (c .before .before .size .ensures) (c .before .intervals .ensures) _ _ (c .before .before .before .before .before .before .before .pre .0) (c .before .before .before .before .before .before .before .pre .1) (parted _ _ (sym (c .before .before .before .before .moved-whole .ensures) ∙ c .before .before .before .if1 .left)) in (f .0, f .1)
+strip-requires c κs = let f = strip-fits _ (c .before .before .before .before .before .before .before .args .c) _ _ (c .before .before .size .ensures) (c .before .intervals .ensures) _ _ (c .before .before .before .before .before .before .before .pre .0) (c .before .before .before .before .before .before .before .pre .1 .0) (c .before .before .before .before .before .before .before .pre .1 .1) (parted _ _ (sym (c .before .before .before .before .whole .ensures) ∙ c .before .before .before .if1 .left)) in (f .0, f .1)
 
 returns-2 : tie.Need-returns-2
-returns-2 c = handed-parted _ _ _ _ _ _ (sym (c .before .before .before .before .before .before .before .moved-whole .ensures) ∙ c .before .before .before .before .before .before .if1 .left) (c .before .before .before .before .before .size .ensures) (c .before .before .before .before .intervals .ensures) (c .before .before .strip .ensures)
+returns-2 c = handed-parted _ _ _ _ _ _ (sym (c .before .before .before .before .before .before .before .whole .ensures) ∙ c .before .before .before .before .before .before .if1 .left) (c .before .before .before .before .before .size .ensures) (c .before .before .before .before .intervals .ensures) (c .before .before .strip .ensures)
 
 pub hand-out-spec : {M : Type 1} → statement M
 hand-out-spec =

@@ -1,0 +1,210 @@
+// What a transfer checks, on which side, and what it inserts: from the description and the command to the rules of judging, the first
+// tags and the marks of new fields.
+ghost use mathlib.Core.Path.{_≡_};
+ghost use mathlib.Core.Bool.{_&&_};
+ghost use Rattle.segment.specs.Segment.{Segment};
+ghost use Rattle.rules.specs.Rules.{columnsIn, columnsOf, applicationKnown, referenceKnown, firstTag, escapeOf, rulesOf, startOf};
+ghost use Rattle.rules.specs.Sides.{checksOn, checkedOn};
+ghost use Rattle.rules.specs.Inserted.{insertedApplication, insertedReference, marksOf};
+use command::Command;
+use command::Operation;
+use insertion::Marks;
+use interval::Escape;
+use interval::Place;
+use interval::Rules;
+use segment::Description;
+
+// What is judged: the blocks that a command sends, or the stored ones.
+pub enum Side {
+    Sent,
+    Stored,
+}
+
+// Which fields a protect code chooses.
+pub struct Columns {
+    pub guard: bool,
+    pub application: bool,
+    pub reference: bool,
+}
+
+fn columns_in(guard: bool, application: bool, reference: bool) -> Columns
+    ensures { λ r. ⌜ r ≡ columnsIn guard application reference ⌝ }
+{
+    Columns {
+        guard: guard,
+        application: application,
+        reference: reference,
+    }
+}
+
+fn columns_of(code: u8) -> Columns
+    ensures { λ r. ⌜ r ≡ columnsOf code ⌝ }
+{
+    match code {
+        0b000 => columns_in(true, true, true),
+        0b001 => columns_in(true, true, true),
+        0b010 => columns_in(false, true, true),
+        0b011 => columns_in(false, false, false),
+        0b100 => columns_in(true, false, false),
+        0b101 => columns_in(true, true, true),
+        _ => columns_in(false, false, false),
+    }
+}
+
+fn both(a: bool, b: bool) -> bool
+    ensures { λ r. ⌜ r ≡ (a && b) ⌝ }
+{
+    if a {
+        return b;
+    }
+    false
+}
+
+fn application_known(d: Description, c: Command) -> bool
+    ensures { λ r. ⌜ r ≡ applicationKnown d c ⌝ }
+{
+    both(c.long, d.ato == 1)
+}
+
+fn reference_known(d: Description, c: Command) -> bool
+    ensures { λ r. ⌜ r ≡ referenceKnown d c ⌝ }
+{
+    if d.kind == 1 {
+        return true;
+    }
+    if d.kind == 2 {
+        return c.long;
+    }
+    false
+}
+
+fn first_tag(d: Description, c: Command) -> u32
+    ensures { λ r. ⌜ r ≡ firstTag d c ⌝ }
+{
+    if d.kind == 1 {
+        (c.address % 0x1_0000_0000) as u32
+    } else {
+        c.tag
+    }
+}
+
+fn escape_of(side: Side, kind: u64) -> Escape
+    ensures { λ r. ⌜ r ≡ escapeOf side kind ⌝ }
+{
+    match side {
+        Side::Sent => Escape::Never,
+        Side::Stored => if kind == 3 { Escape::Both } else { Escape::Tag },
+    }
+}
+
+// How the intervals of a side are judged.
+pub fn rules(side: Side, d: Description, c: Command) -> Rules
+    requires { ⌜ Segment d ⌝ }
+    ensures { λ r. ⌜ r ≡ rulesOf side d c ⌝ }
+{
+    let columns = columns_of(c.code);
+    let application = both(columns.application, application_known(d, c));
+    let reference = both(columns.reference, reference_known(d, c));
+    Rules {
+        intervals: segment::intervals(d),
+        size: segment::size(d),
+        guard: columns.guard,
+        application: application,
+        reference: reference,
+        expected: c.application,
+        mask: c.mask,
+        escape: escape_of(side, d.kind),
+    }
+}
+
+// Whether an operation checks a side.
+fn checks_on(side: Side, o: Operation, c: Command) -> bool
+    ensures { λ r. ⌜ r ≡ checksOn side o c ⌝ }
+{
+    match side {
+        Side::Sent => match o {
+            Operation::Read => false,
+            Operation::Write => c.code != 0,
+            Operation::Verify => false,
+        },
+        Side::Stored => match o {
+            Operation::Read => true,
+            Operation::Write => false,
+            Operation::Verify => true,
+        },
+    }
+}
+
+// How many blocks of a side are checked: all of the transfer's or none.
+pub fn checked_on(side: Side, d: Description, c: Command) -> u64
+    ensures { λ r. ⌜ r ≡ checkedOn side d c ⌝ }
+{
+    if d.kind == 0 {
+        return 0;
+    }
+    let o = c.operation;
+    if checks_on(side, o, c) {
+        return c.length;
+    }
+    0
+}
+
+// Where judging starts.
+pub fn start(d: Description, c: Command) -> Place
+    ensures { λ r. ⌜ r ≡ startOf d c ⌝ }
+{
+    Place {
+        address: c.address,
+        interval: 0,
+        tag: first_tag(d, c),
+    }
+}
+
+fn inserted_application(d: Description, c: Command) -> u16
+    ensures { λ r. ⌜ r ≡ insertedApplication d c ⌝ }
+{
+    if d.ato == 0 {
+        return 0;
+    }
+    if c.long {
+        return c.application;
+    }
+    0xFFFF
+}
+
+fn inserted_reference(d: Description, c: Command) -> u32
+    requires { ⌜ Segment d ⌝ }
+    ensures { λ r. ⌜ r ≡ insertedReference d c ⌝ }
+{
+    if d.kind == 1 {
+        return (c.address % 0x1_0000_0000) as u32;
+    }
+    if d.kind == 2 {
+        if c.long {
+            return c.tag;
+        }
+        return (c.address % 0x1_0000_0000 * segment::intervals(d) as u64 % 0x1_0000_0000) as u32;
+    }
+    0
+}
+
+// What a WRITE with code 000, which brings no fields, puts into them.
+pub fn marks(d: Description, c: Command) -> Marks
+    requires { ⌜ Segment d ⌝ }
+    ensures { λ r. ⌜ r ≡ marksOf d c ⌝ }
+{
+    let application = inserted_application(d, c);
+    let reference = inserted_reference(d, c);
+    if d.kind == 3 {
+        return Marks {
+            application: application,
+            reference: reference,
+            step: 0,
+        };
+    }
+    Marks {
+        application: application,
+        reference: reference,
+        step: 1,
+    }
+}

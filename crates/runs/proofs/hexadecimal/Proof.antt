@@ -1,0 +1,22 @@
+-- `runs::hexadecimal`: the index stays within the bytes.
+-- Assumes nothing.
+use Prim.Native.Nat.{_-_}
+use lib.ListN.{length}
+use borrow.Author.Needs.{needs}
+use Rattle.runs.proofs.hexadecimal.Statement.{statement}
+use Rattle.runs.proofs.hexadecimal.Tie as tie
+
+abbrev Inv-loop : tie.InvT-loop
+Inv-loop bytes i₀ i = Unit {0}
+
+abbrev μ-loop : tie.MeasureT-loop
+μ-loop bytes i₀ i = length bytes - i
+
+pub hexadecimal-spec : {M : Type 1} → statement M
+hexadecimal-spec =
+    tie.close
+    (tie.spec
+    Inv-loop
+    μ-loop
+    (λ c. search needs) (λ c. search needs) (λ c κs. search needs) (λ c κs. search needs)
+    (λ c. search needs) (λ c. search needs) (λ c. search needs) (λ c. search needs))
