@@ -17,8 +17,8 @@ use Rattle.answer.specs.declared.Answer.{Answer}
 use Rattle.answer.specs.declared.Answer.the-variants as answers
 use Rattle.segment.specs.declared.Description.{Description}
 use Rattle.segment.specs.Segment.{intervalsOf, sizeOf}
+use Rattle.segment.specs.Places.{intervalAt}
 use Rattle.command.specs.declared.Command.{Command}
-use Rattle.command.specs.declared.Operation.the-variants.{Write}
 use Rattle.interval.specs.declared.Rules.{Rules}
 use Rattle.interval.specs.declared.Place.{Place}
 use Rattle.interval.specs.declared.Escape.the-variants.{Never}
@@ -34,9 +34,10 @@ use Rattle.judge.specs.Judge.{judgeIntervals, judgeBlock, judgeBlocks, nextInte
 use Rattle.insertion.specs.declared.Marks.{Marks}
 use Rattle.insertion.specs.Insertion.{withField, later, storedBlock, storedBlocks}
 use Rattle.insertion.proofs.Laws.{interval-length, block-length, interval-read-on, interval-field-on}
-use Rattle.rules.specs.Rules.{columnsOf, applicationKnown, referenceKnown, firstTag, escapeOf, rulesOf, startOf}
+use Rattle.rules.specs.Rules.{columnsOf, applicationKnown, referenceKnown, firstTag, rulesOf, startOf}
 use Rattle.rules.specs.Inserted.{insertedApplication, insertedReference, marksOf}
-use Rattle.rules.specs.Intervals.{intervalAt, placeAt, skipped, verdictAt}
+use Rattle.rules.specs.declared.Side.the-variants.{Sent, Stored}
+use Rattle.rules.specs.Intervals.{placeAt, skipped, verdictAt}
 use Rattle.execute.specs.Compared.{asRead}
 use Rattle.execute.proofs.Wrong.{blocks-good}
 
@@ -143,7 +144,7 @@ module _ (d : Description) (c : Command) (application : c .application < 65536) 
       small-of (eqb (d .kind) 1) _ _ (2 ^ 32) (mod-lt (c .address) (lit< tt))
       (small-of (eqb (d .kind) 2) _ _ (2 ^ 32) (small-of (c .long) _ _ (2 ^ 32) tag (mod-lt (c .address * intervalsOf d) (lit< tt))) (lit< tt))
 
-  fit-start : Fit (rulesOf d (asRead c)) (startOf d (asRead c)) (marksOf d c)
+  fit-start : Fit (rulesOf Stored d (asRead c)) (startOf d (asRead c)) (marksOf d c)
   unfolding rulesOf startOf marksOf insertedApplication insertedReference applicationKnown referenceKnown firstTag
   fit-start =
       record {
@@ -154,23 +155,23 @@ module _ (d : Description) (c : Command) (application : c .application < 65536) 
       }
 
   pub inserted-accepted : (s : List ℕ) → c .length * (intervalsOf d * sizeOf d) ≤ length s
-      → judgeBlocks (rulesOf d (asRead c)) (c .length) (startOf d (asRead c)) (storedBlocks (sizeOf d) (intervalsOf d) (c .length) (marksOf d c) s) ≡ answers.Good
+      → judgeBlocks (rulesOf Stored d (asRead c)) (c .length) (startOf d (asRead c)) (storedBlocks (sizeOf d) (intervalsOf d) (c .length) (marksOf d c) s) ≡ answers.Good
   unfolding rulesOf
-  inserted-accepted s h = inserted-right (rulesOf d (asRead c)) (c .length) (startOf d (asRead c)) (marksOf d c) s fit-start h
+  inserted-accepted s h = inserted-right (rulesOf Stored d (asRead c)) (c .length) (startOf d (asRead c)) (marksOf d c) s fit-start h
 
 -- ---- fields that were received: only the escape is judged otherwise
-module _ (d : Description) (c : Command) (s : List ℕ) (w : c .operation ≡ Write) where
-  not-skipped : (j : ℕ) → skipped d c s j ≡ false
+module _ (d : Description) (c : Command) (s : List ℕ) where
+  not-skipped : (j : ℕ) → skipped Sent d c s j ≡ false
   unfolding rulesOf escapes
-  not-skipped j = rw (ap (λ o. escapeOf o (d .kind)) w) (any-none Never (sizeOf d) (intervalsOf d) _ .1 (λ i h. refl))
+  not-skipped j = (any-none Never (sizeOf d) (intervalsOf d) _ .1 (λ i h. refl))
 
-  verdict-kept : (j i : ℕ) → verdictAt d c s j i ≡ answers.Good → verdictAt d (asRead c) s j i ≡ answers.Good
+  verdict-kept : (j i : ℕ) → verdictAt Sent d c s j i ≡ answers.Good → verdictAt Stored d (asRead c) s j i ≡ answers.Good
   unfolding rulesOf judgeInterval judgePieces guardWrong applicationWrong referenceWrong firstTag applicationKnown referenceKnown
   verdict-kept j i e =
-      either (rulesOf d c) (skipped d (asRead c) s j) _
-      (ap (λ (b : Bool). cond b answers.Good (judgeInterval (rulesOf d c) (placeAt d c j i) (intervalAt d s j i))) (sym (not-skipped j)) ∙ e)
+      either (rulesOf Sent d c) (skipped Stored d (asRead c) s j) _
+      (ap (λ (b : Bool). cond b answers.Good (judgeInterval (rulesOf Sent d c) (placeAt d c j i) (intervalAt d s j i))) (sym (not-skipped j)) ∙ e)
 
-  pub received-accepted : (k : ℕ) → firstTag d c < 2 ^ 32 → judgeBlocks (rulesOf d c) k (startOf d c) s ≡ answers.Good
-      → judgeBlocks (rulesOf d (asRead c)) k (startOf d (asRead c)) s ≡ answers.Good
+  pub received-accepted : (k : ℕ) → firstTag d c < 2 ^ 32 → judgeBlocks (rulesOf Sent d c) k (startOf d c) s ≡ answers.Good
+      → judgeBlocks (rulesOf Stored d (asRead c)) k (startOf d (asRead c)) s ≡ answers.Good
   received-accepted k small e =
-      blocks-good d (asRead c) s (unfold firstTag in small) k .1 (λ j i h l. verdict-kept j i (blocks-good d c s small k .0 e j i h l))
+      blocks-good Stored d (asRead c) s (unfold firstTag in small) k .1 (λ j i h l. verdict-kept j i (blocks-good Sent d c s small k .0 e j i h l))

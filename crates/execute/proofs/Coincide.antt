@@ -3,8 +3,9 @@
 -- Assumes nothing.
 use mathlib.Core.Path.{_≡_, sym, ap, _∙_}
 use denote.Ref.{now}
-use Rattle.execute.specs.Execute.{Outcome}
+use Rattle.answer.specs.Outcome.{Outcome}
+use Rattle.execute.specs.Lent.{Lent}
 use Rattle.execute.proofs.execute.Reads as execute-reads
 
 pub execute : (κs : _) (a : _) (x y : _) (s t : _) → execute-reads.Post κs a x s → execute-reads.Post κs a y t → (x ≡ y) × (now (s .1 .0) ≡ now (t .1 .0)) × (now (s .1 .1 .1 .0) ≡ now (t .1 .1 .1 .0))
-execute κs a x y s t p q = (ap (λ (o : Outcome). o .answer) (p ∙ sym q), ap (λ (o : Outcome). o .segment) (p ∙ sym q), ap (λ (o : Outcome). o .buffer) (p ∙ sym q))
+execute κs a x y s t p q = (ap (λ (o : Outcome Lent). o .answer) (p ∙ sym q), ap (λ (o : Outcome Lent). o .left .segment) (p ∙ sym q), ap (λ (o : Outcome Lent). o .left .buffer) (p ∙ sym q))

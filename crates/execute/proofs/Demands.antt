@@ -1,7 +1,7 @@
 -- Demands 1 and 2: what holds of every command's outcome, `executed`.
 -- Assumes nothing.
-use mathlib.Core.Path.{_≡_, refl, sym, ap, _∙_}
-use mathlib.Core.Logic.{_↔_, ⊎-elim}
+use mathlib.Core.Path.{_≡_, refl, sym, ap, ap₂, _∙_}
+use mathlib.Core.Logic.{_↔_, _⊎_, inl, inr, ⊎-elim}
 use mathlib.Core.Bool.{Bool, true, false, not, _&&_, cond, true≢false}
 use mathlib.Core.List.{List}
 use Prim.Native.Nat.{ℕ, _+_, _*_, _^_, _≤_, _<_}
@@ -11,107 +11,115 @@ use borrow.Author.Tests.{eqb-true, eqb-false, le-leb}
 use lib.Dec.{eqb, leb}
 use lib.ListN.{length}
 use Rattle.words.specs.Parts.{Bytes}
-use Rattle.answer.specs.Answer.{numberOf, isGood, inTable}
+use Rattle.answer.specs.Answer.{numberOf, isGood, forProtection, orElse, inTable}
+use Rattle.answer.specs.Outcome.{Outcome, outcome, leaving}
 use Rattle.answer.specs.declared.Answer.{Answer}
 use Rattle.answer.specs.declared.Answer.the-variants as answers
-use Rattle.answer.specs.declared.Reason.the-variants as reasons
-use Rattle.answer.proofs.Demands.{in-table}
+use Rattle.answer.proofs.Demands.{in-table, refused-leaves}
+use Rattle.answer.proofs.Ladder.{good-or, good-is, orElse-good}
 use Rattle.segment.specs.declared.Description.{Description}
-use Rattle.segment.specs.Segment.{isSegment, intervalsOf, sizeOf, lengthOf}
+use Rattle.segment.specs.Segment.{intervalsOf, sizeOf}
+use Rattle.segment.specs.Rules.{segmentRules}
+use Rattle.segment.specs.Places.{intervalAt}
+use Rattle.field.specs.Field.{dataOf, fieldOf}
 use Rattle.command.specs.Command.{decode}
 use Rattle.command.specs.Bits.{SameCommand}
 use Rattle.command.specs.declared.Command.{Command}
-use Rattle.command.specs.declared.Decoded.{Decoded}
 use Rattle.command.specs.declared.Decoded.the-variants.{Served}
-use Rattle.command.specs.declared.Decoded.the-variants as decoded
 use Rattle.command.specs.declared.Operation.{Operation}
 use Rattle.command.specs.declared.Operation.the-variants.{Read, Write, Verify}
 use Rattle.command.proofs.Laws.{Bounded, served-bounded}
 use Rattle.command.proofs.Demands.{same-command}
-use Rattle.field.specs.Field.{dataOf, fieldOf}
 use Rattle.interval.specs.Interval.{guardWrong, applicationWrong, referenceWrong, judgeInterval}
 use Rattle.interval.specs.Verdict.{Verdict}
-use Rattle.judge.specs.FirstOf.{firstOf}
 use Rattle.judge.specs.Judge.{judgeBlocks}
-use Rattle.answer.proofs.Ladder.{good-or}
+use Rattle.rules.specs.declared.Side.{Side}
+use Rattle.rules.specs.declared.Side.the-variants.{Sent, Stored}
 use Rattle.rules.specs.Rules.{rulesOf, startOf, firstTag}
-use Rattle.rules.specs.Intervals.{intervalAt, placeAt, verdictAt}
+use Rattle.rules.specs.Sides.{checksOn}
+use Rattle.rules.specs.Intervals.{placeAt}
+use Rattle.rules.proofs.Laws.{checked-none, checked-plain}
 use Rattle.rules.proofs.Places.{tag-small}
-use Rattle.refusal.specs.Refusal.{typeRules, codeRule, checkRule, rangeRule, sizeRule, isVerify, movedOf, bufferOf, bufferRule, refusal}
+use Rattle.refusal.specs.declared.Lengths.{Lengths}
+use Rattle.refusal.specs.Refusal.{typeRules, codeRule, checkRule, sizeRule, isVerify, movedOf, bufferOf, bufferRule, refusal}
 use Rattle.admission.specs.declared.Admitted.{Admitted}
 use Rattle.admission.specs.declared.Admitted.the-variants.{Refused, Go}
-use Rattle.admission.specs.Admission.{admitDecoded, admitted}
+use Rattle.admission.specs.Admission.{admitted}
 use Rattle.admission.specs.Ready.{Ready}
-use Rattle.admission.proofs.Ready.{admitted-ready}
-use Rattle.transfer.specs.Transfer.{blocksOf, whole, judgedIn, handed, received}
-use Rattle.execute.specs.Execute.{Outcome, outcome, judgedFor, judged, overwritten, performedFor, performed, executedAs, executed}
+use Rattle.admission.proofs.Ready.{admitted-served, admitted-ready}
+use Rattle.execute.specs.Lent.{Lent, lent, lengthsOf}
+use Rattle.transfer.specs.Transfer.{blocksOf, judgedOn, judged, whole, handed, received}
+use Rattle.transfer.proofs.Shapes.{whole-code, whole-not, received-whole, judged-none, judged-all}
+use Rattle.execute.specs.Execute.{underCheck, overwritten, movedFor, performed, executedAs, executed}
 use Rattle.execute.specs.Compared.{Alike, Beside, asRead}
-use Rattle.transfer.proofs.Shapes.{whole-code, whole-not, received-whole, judged-plain, judged-fields}
-use Rattle.execute.specs.Checked.{underCheck, checkedBlocks, FirstWrongInterval, forProtection, WrongInterval}
-use Rattle.execute.proofs.Wrong.{blocks-good, blocks-wrong, interval-verdict}
+use Rattle.execute.specs.Checked.{FirstWrong, AllRight, WrongInterval}
+use Rattle.execute.proofs.Wrong.{side-good, side-wrong, interval-verdict}
 use Rattle.execute.proofs.Accepted.{inserted-accepted, received-accepted}
 use Rattle.execute.proofs.InOrder.{not-in-order-names-no-interval}
 use Rattle.execute.proofs.Stored.{enough, inserted, beside-itself, overwritten-beside, overwritten-there, handed-back, same-blocks}
 
+-- the verdict on both sides of what is lent
+abbrev verdict : Description → Command → Lent → Answer
+verdict d c l = judged d c (underCheck Sent d c l) (underCheck Stored d c l)
+
 -- ---- what an operation leaves alone, and what it does
-module _ (a : Answer) (d : Description) (c : Command) (segment buffer : List ℕ) where
-  abbrev doing : Operation → Outcome
-  doing o = performedFor o a d c segment buffer
+module _ (a : Answer) (d : Description) (c : Command) (l : Lent) where
+  abbrev doing : Operation → Outcome Lent
+  doing o = leaving a l (movedFor o d c l)
 
-  refused-for : (o : Operation) → isGood (doing o .answer) ≡ false → (doing o .segment ≡ segment) × (doing o .buffer ≡ buffer)
-  refused-for Read w = (refl, rw w refl)
-  refused-for Write w = (rw w refl, refl)
-  refused-for Verify w = (refl, refl)
+  -- what holds of what was lent, and of what a good command leaves, holds of what is left
+  left-by : (P : Lent → Type 0) → P l → (o : Operation) → P (movedFor o d c l) → P (doing o .left)
+  left-by P before o after = by (isGood a)
+    where
+      by : (g : Bool) → P (cond g (movedFor o d c l) l)
+      by true = after
+      by false = before
 
-  segment-for : (o : Operation) → (o ≡ Write → ⊥) → doing o .segment ≡ segment
+  segment-for : (o : Operation) → (o ≡ Write → ⊥) → movedFor o d c l .segment ≡ l .segment
   segment-for Read n = refl
   segment-for Write n = absurd (n refl)
   segment-for Verify n = refl
 
-  buffer-for : (o : Operation) → (o ≡ Read → ⊥) → doing o .buffer ≡ buffer
+  buffer-for : (o : Operation) → (o ≡ Read → ⊥) → movedFor o d c l .buffer ≡ l .buffer
   buffer-for Read n = absurd (n refl)
   buffer-for Write n = refl
   buffer-for Verify n = refl
 
-  beside-for : (o : Operation) → (o ≡ Write → Beside d c segment (overwritten d c segment buffer)) → Beside d c segment (doing o .segment)
-  beside-for Read f = beside-itself d c segment
-  beside-for Verify f = beside-itself d c segment
-  beside-for Write f = by (isGood a)
-    where
-      by : (g : Bool) → Beside d c segment (cond g (overwritten d c segment buffer) segment)
-      by true = f refl
-      by false = beside-itself d c segment
+  beside-for : (o : Operation) → (o ≡ Write → Beside d c (l .segment) (overwritten d c l)) → Beside d c (l .segment) (movedFor o d c l .segment)
+  beside-for Read f = beside-itself d c (l .segment)
+  beside-for Verify f = beside-itself d c (l .segment)
+  beside-for Write f = f refl
 
-  stored-for : (o : Operation) → o ≡ Write → isGood (doing o .answer) ≡ true → doing o .segment ≡ overwritten d c segment buffer
+  stored-for : (o : Operation) → o ≡ Write → isGood (doing o .answer) ≡ true → doing o .left .segment ≡ overwritten d c l
   stored-for o e = rw e (λ g. rw g refl)
 
-  handed-for : (o : Operation) → o ≡ Read → isGood (doing o .answer) ≡ true → doing o .buffer ≡ handed d c (blocksOf d c segment)
+  handed-for : (o : Operation) → o ≡ Read → isGood (doing o .answer) ≡ true → doing o .left .buffer ≡ handed d c (blocksOf d c (l .segment))
   handed-for o e = rw e (λ g. rw g refl)
 
-  answer-for : (o : Operation) → doing o .answer ≡ a
-  answer-for Read = refl
-  answer-for Write = refl
-  answer-for Verify = refl
-
 -- two segments with the same blocks of the transfer, two buffers
-module _ (d : Description) (c : Command) (s s′ b b′ : List ℕ) (e : blocksOf d c s ≡ blocksOf d c s′) where
-  judged-alike : (o : Operation) → (o ≡ Write → ⊥) → judgedFor o d c s b ≡ judgedFor o d c s′ b′
-  judged-alike Read n = ap (judgedIn d c) e
-  judged-alike Write n = absurd (n refl)
-  judged-alike Verify n = ap (judgedIn d c) e
+module _ (d : Description) (c : Command) (l m : Lent) (e : blocksOf d c (l .segment) ≡ blocksOf d c (m .segment)) where
+  -- nothing that is sent is checked
+  sent-none : (o : Operation) → (o ≡ Write → ⊥) → checksOn Sent o c ≡ false
+  sent-none Read n = refl
+  sent-none Write n = absurd (n refl)
+  sent-none Verify n = refl
 
-  performed-alike : (c .operation ≡ Write → ⊥) → Alike c (performed d c s b) (performed d c s′ b′)
-  unfolding performed judged
+  judged-alike : (c .operation ≡ Write → ⊥) → verdict d c l ≡ verdict d c m
+  unfolding judged
+  judged-alike n =
+      let none = checked-none Sent d c (sent-none (c .operation) n) in
+      ap₂ orElse (judged-none Sent d c (l .buffer) none ∙ sym (judged-none Sent d c (m .buffer) none)) (ap (judgedOn Stored d c) e)
+
+  performed-alike : (c .operation ≡ Write → ⊥) → Alike c (performed d c l) (performed d c m)
+  unfolding performed
   performed-alike n =
-      let a = judged d c s b in
-      let a′ = judged d c s′ b′ in
-      let same = answer-for a d c s b (c .operation) ∙ judged-alike (c .operation) n ∙ sym (answer-for a′ d c s′ b′ (c .operation)) in
+      let same = judged-alike n in
       record {
         answer = same;
         filled =
             λ r g.
-            handed-for a d c s b (c .operation) r g
-            ∙ ap (handed d c) e ∙ sym (handed-for a′ d c s′ b′ (c .operation) r (ap isGood (sym same) ∙ g));
+            handed-for (verdict d c l) d c l (c .operation) r g
+            ∙ ap (handed d c) e ∙ sym (handed-for (verdict d c m) d c m (c .operation) r (ap isGood (sym same) ∙ g));
       }
 
 -- ---- what a served command's admission can be
@@ -119,223 +127,187 @@ abbrev Settled : Command → Admitted → Type 0
 Settled c (Refused a) = isGood a ≡ false
 Settled c (Go k) = k ≡ c
 
-settled : (p q g : Bool) (c : Command) (r : Answer) → isGood r ≡ g
-    → Settled c (cond p (Refused (answers.Refused reasons.DescriptionBad)) (cond q (Refused (answers.Refused reasons.SegmentLengthWrong)) (cond g (Go c) (Refused r))))
-settled true q g c r e = refl
-settled false true g c r e = refl
-settled false false true c r e = refl
-settled false false false c r e = e
+settled : (c : Command) (x r : Answer) (s g : Bool) → isGood x ≡ s → isGood r ≡ g → Settled c (cond s (cond g (Go c) (Refused r)) (Refused x))
+settled c x r true true e f = refl
+settled c x r true false e f = f
+settled c x r false g e f = e
 
-module _ (d : Description) (segment command buffer : List ℕ) where
+module _ (d : Description) (command : List ℕ) (l : Lent) where
   -- every input gets an answer of the table
-  pub one-answer : inTable (numberOf (executed d segment command buffer .answer)) ≡ true
-  one-answer = in-table (executed d segment command buffer .answer)
+  pub one-answer : inTable (numberOf (executed d command l .answer)) ≡ true
+  one-answer = in-table (executed d command l .answer)
 
   -- "Any answer but 0 changes no lent byte": a refused READ leaves the buffer, a refused WRITE the segment
-  pub refused-leaves-all : isGood (executed d segment command buffer .answer) ≡ false
-      → (executed d segment command buffer .segment ≡ segment) × (executed d segment command buffer .buffer ≡ buffer)
+  pub refused-leaves-all : isGood (executed d command l .answer) ≡ false → executed d command l .left ≡ l
   unfolding executed performed
-  refused-leaves-all = by (admitted d (length segment) command (length buffer))
+  refused-leaves-all = by (admitted d (lengthsOf l) command)
     where
-      by : (x : Admitted) → isGood (executedAs x d segment buffer .answer) ≡ false
-          → (executedAs x d segment buffer .segment ≡ segment) × (executedAs x d segment buffer .buffer ≡ buffer)
-      by (Refused a) w = (refl, refl)
-      by (Go c) w = refused-for (judged d c segment buffer) d c segment buffer (c .operation) w
+      by : (x : Admitted) → isGood (executedAs x d l .answer) ≡ false → executedAs x d l .left ≡ l
+      by (Refused a) w = refl
+      by (Go c) w = refused-leaves (verdict d c l) l (movedFor (c .operation) d c l) w
 
   module _ (c : Command) (served : decode command ≡ Served c) where
-    admitted-settled : Settled c (admitted d (length segment) command (length buffer))
+    admitted-settled : Settled c (admitted d (lengthsOf l) command)
     unfolding admitted
-    admitted-settled =
-        rw served
-        (settled (not (isSegment d)) (not (eqb (length segment) (lengthOf d))) (isGood (refusal d c (length buffer))) c (refusal d c (length buffer)) refl)
+    admitted-settled = rw served (settled c (segmentRules d (length (l .segment))) (refusal d c (lengthsOf l)) _ _ refl refl)
 
     -- what holds where nothing was done, and of a transfer that was admitted, holds of the command's outcome
-    pub served-outcome : (P : Outcome → Type 0) → ((a : Answer) → isGood a ≡ false → P (outcome a segment buffer))
-        → (Ready d c (length segment) (length buffer) → P (performed d c segment buffer)) → P (executed d segment command buffer)
+    pub served-outcome : (P : Outcome Lent → Type 0) → ((a : Answer) → isGood a ≡ false → P (outcome a l))
+        → (Ready d c (lengthsOf l) → P (performed d c l)) → P (executed d command l)
     unfolding executed
-    served-outcome P none some = by (admitted d (length segment) command (length buffer)) refl admitted-settled
+    served-outcome P none some = by (admitted d (lengthsOf l) command) refl admitted-settled
       where
-        by : (x : Admitted) → admitted d (length segment) command (length buffer) ≡ x → Settled c x → P (executedAs x d segment buffer)
+        by : (x : Admitted) → admitted d (lengthsOf l) command ≡ x → Settled c x → P (executedAs x d l)
         by (Refused a) e s = none a s
-        by (Go k) e s = rw s (some (rw s at (admitted-ready d (length segment) command (length buffer) k e)))
+        by (Go k) e s = rw s (some (rw s at (admitted-ready d (lengthsOf l) command k e)))
 
     -- a good command was in order
-    pub good-in-order : isGood (executed d segment command buffer .answer) ≡ true → admitted d (length segment) command (length buffer) ≡ Go c
+    pub good-in-order : isGood (executed d command l .answer) ≡ true → admitted d (lengthsOf l) command ≡ Go c
     unfolding executed
-    good-in-order = by (admitted d (length segment) command (length buffer)) refl admitted-settled
+    good-in-order = by (admitted d (lengthsOf l) command) refl admitted-settled
       where
-        by : (x : Admitted) → admitted d (length segment) command (length buffer) ≡ x → Settled c x → isGood (executedAs x d segment buffer .answer) ≡ true
-            → admitted d (length segment) command (length buffer) ≡ Go c
+        by : (x : Admitted) → admitted d (lengthsOf l) command ≡ x → Settled c x → isGood (executedAs x d l .answer) ≡ true
+            → admitted d (lengthsOf l) command ≡ Go c
         by (Refused a) e s g = absurd (true≢false (sym g ∙ s))
         by (Go k) e s g = e ∙ ap Go s
 
     -- "A READ or VERIFY never changes the segment."
-    pub read-or-verify-leaves-segment : (c .operation ≡ Write → ⊥) → executed d segment command buffer .segment ≡ segment
+    pub read-or-verify-leaves-segment : (c .operation ≡ Write → ⊥) → executed d command l .left .segment ≡ l .segment
     unfolding performed
     read-or-verify-leaves-segment n =
-        served-outcome (λ o. o .segment ≡ segment) (λ a g. refl) (λ r. segment-for (judged d c segment buffer) d c segment buffer (c .operation) n)
+        served-outcome (λ o. o .left .segment ≡ l .segment) (λ a g. refl)
+        (λ r. left-by (verdict d c l) d c l (λ x. x .segment ≡ l .segment) refl (c .operation) (segment-for (verdict d c l) d c l (c .operation) n))
 
     -- the buffer is a READ's answer alone
-    pub write-or-verify-leaves-buffer : (c .operation ≡ Read → ⊥) → executed d segment command buffer .buffer ≡ buffer
+    pub write-or-verify-leaves-buffer : (c .operation ≡ Read → ⊥) → executed d command l .left .buffer ≡ l .buffer
     unfolding performed
     write-or-verify-leaves-buffer n =
-        served-outcome (λ o. o .buffer ≡ buffer) (λ a g. refl) (λ r. buffer-for (judged d c segment buffer) d c segment buffer (c .operation) n)
+        served-outcome (λ o. o .left .buffer ≡ l .buffer) (λ a g. refl)
+        (λ r. left-by (verdict d c l) d c l (λ x. x .buffer ≡ l .buffer) refl (c .operation) (buffer-for (verdict d c l) d c l (c .operation) n))
 
     -- "On a good WRITE the transfer's own blocks of the segment are overwritten and no other"
-    pub good-write-keeps-other-blocks : Beside d c segment (executed d segment command buffer .segment)
+    pub good-write-keeps-other-blocks : Beside d c (l .segment) (executed d command l .left .segment)
     unfolding performed
     good-write-keeps-other-blocks =
-        served-outcome (λ o. Beside d c segment (o .segment)) (λ a g. beside-itself d c segment)
-        (λ r. beside-for (judged d c segment buffer) d c segment buffer (c .operation) (overwritten-beside d c segment buffer r))
+        served-outcome (λ o. Beside d c (l .segment) (o .left .segment)) (λ a g. beside-itself d c (l .segment))
+        (λ r. left-by (verdict d c l) d c l (λ x. Beside d c (l .segment) (x .segment)) (beside-itself d c (l .segment)) (c .operation)
+        (beside-for (verdict d c l) d c l (c .operation) (overwritten-beside d c l r)))
 
     -- "received fields are stored as received"; with 000 they are inserted
-    pub good-write-stores : c .operation ≡ Write → isGood (executed d segment command buffer .answer) ≡ true
-        → Ready d c (length segment) (length buffer) × (blocksOf d c (executed d segment command buffer .segment) ≡ received d c buffer)
+    pub good-write-stores : c .operation ≡ Write → isGood (executed d command l .answer) ≡ true
+        → Ready d c (lengthsOf l) × (blocksOf d c (executed d command l .left .segment) ≡ received d c (l .buffer))
     unfolding performed
     good-write-stores w =
         served-outcome
-        (λ o. isGood (o .answer) ≡ true → Ready d c (length segment) (length buffer) × (blocksOf d c (o .segment) ≡ received d c buffer))
+        (λ o. isGood (o .answer) ≡ true → Ready d c (lengthsOf l) × (blocksOf d c (o .left .segment) ≡ received d c (l .buffer)))
         (λ a b g. absurd (true≢false (sym g ∙ b)))
-        (λ r g. (
-          r,
-          ap (blocksOf d c) (stored-for (judged d c segment buffer) d c segment buffer (c .operation) w g) ∙ overwritten-there d c segment buffer r w,
-        ))
+        (λ r g. (r, ap (blocksOf d c) (stored-for (verdict d c l) d c l (c .operation) w g) ∙ overwritten-there d c l r w))
 
     -- "A good READ fills its buffer with the transfer's blocks in order"
-    pub good-read-hands-out : c .operation ≡ Read → isGood (executed d segment command buffer .answer) ≡ true
-        → executed d segment command buffer .buffer ≡ handed d c (blocksOf d c segment)
+    pub good-read-hands-out : c .operation ≡ Read → isGood (executed d command l .answer) ≡ true
+        → executed d command l .left .buffer ≡ handed d c (blocksOf d c (l .segment))
     unfolding performed
     good-read-hands-out w =
-        served-outcome (λ o. isGood (o .answer) ≡ true → o .buffer ≡ handed d c (blocksOf d c segment))
+        served-outcome (λ o. isGood (o .answer) ≡ true → o .left .buffer ≡ handed d c (blocksOf d c (l .segment)))
         (λ a b g. absurd (true≢false (sym g ∙ b)))
-        (λ r g. handed-for (judged d c segment buffer) d c segment buffer (c .operation) w g)
+        (λ r g. handed-for (verdict d c l) d c l (c .operation) w g)
 
 -- "The answer of a READ or VERIFY depends on the description, the command, the lengths and the transfer's blocks, on no other block."
-pub own-blocks-alone : (d : Description) (s s′ command buffer buffer′ : List ℕ) (c : Command) → decode command ≡ Served c → (c .operation ≡ Write → ⊥)
-    → length s ≡ length s′ → length buffer ≡ length buffer′ → blocksOf d c s ≡ blocksOf d c s′
-    → Alike c (executed d s command buffer) (executed d s′ command buffer′)
+pub own-blocks-alone : (d : Description) (command : List ℕ) (l m : Lent) (c : Command) → decode command ≡ Served c → (c .operation ≡ Write → ⊥)
+    → lengthsOf l ≡ lengthsOf m → blocksOf d c (l .segment) ≡ blocksOf d c (m .segment) → Alike c (executed d command l) (executed d command m)
 unfolding executed
-own-blocks-alone d s s′ command buffer buffer′ c served n l m e =
-    rw (← l, ← m) (by (admitted d (length s) command (length buffer)) (admitted-settled d s command buffer c served))
+own-blocks-alone d command l m c served n long e =
+    rw (← long) (by (admitted d (lengthsOf l) command) (admitted-settled d command l c served))
   where
-    by : (x : Admitted) → Settled c x → Alike c (executedAs x d s buffer) (executedAs x d s′ buffer′)
+    by : (x : Admitted) → Settled c x → Alike c (executedAs x d l) (executedAs x d m)
     by (Refused a) t = record { answer = refl; filled = λ r g. absurd (true≢false (sym g ∙ t)) }
-    by (Go k) t = rw t (performed-alike d c s s′ buffer buffer′ e n)
+    by (Go k) t = rw t (performed-alike d c l m e n)
 
 -- "No other bit changes an answer.": commands that differ in no bit of the table's have one outcome, the answer with its
 -- numbers and every lent byte, on every segment and buffer
-pub no-other-bit : (d : Description) (segment c c′ buffer : List ℕ) → SameCommand c c′ → executed d segment c buffer ≡ executed d segment c′ buffer
+pub no-other-bit : (d : Description) (c c′ : List ℕ) (l : Lent) → SameCommand c c′ → executed d c l ≡ executed d c′ l
 unfolding executed admitted
-no-other-bit d segment c c′ buffer s = rw (same-command c c′ s) refl
+no-other-bit d c c′ l s = rw (same-command c c′ s) refl
 
 -- a READ after a WRITE of the same blocks, both good
-module _ (d : Description) (segment writing buffer reading out : List ℕ) (w k : Command)
-    (writes : decode writing ≡ Served w) (is-write : w .operation ≡ Write) (good-write : isGood (executed d segment writing buffer .answer) ≡ true)
+module _ (d : Description) (writing : List ℕ) (l : Lent) (reading out : List ℕ) (w k : Command)
+    (writes : decode writing ≡ Served w) (is-write : w .operation ≡ Write) (good-write : isGood (executed d writing l .answer) ≡ true)
     (reads : decode reading ≡ Served k) (is-read : k .operation ≡ Read)
-    (good-read : isGood (executed d (executed d segment writing buffer .segment) reading out .answer) ≡ true)
+    (good-read : isGood (executed d reading (lent (executed d writing l .left .segment) out) .answer) ≡ true)
     (address : k .address ≡ w .address) (long : k .length ≡ w .length) where
   abbrev now : List ℕ
-  now = executed d segment writing buffer .segment
+  now = executed d writing l .left .segment
 
-  stored : Ready d w (length segment) (length buffer) × (blocksOf d w now ≡ received d w buffer)
-  stored = good-write-stores d segment writing buffer w writes is-write good-write
+  stored : Ready d w (lengthsOf l) × (blocksOf d w now ≡ received d w (l .buffer))
+  stored = good-write-stores d writing l w writes is-write good-write
 
   -- it hands out what was stored
-  pub read-gives-what-was-stored : executed d now reading out .buffer ≡ handed d k (received d w buffer)
+  pub read-gives-what-was-stored : executed d reading (lent now out) .left .buffer ≡ handed d k (received d w (l .buffer))
   read-gives-what-was-stored =
-      good-read-hands-out d now reading out k reads is-read good-read ∙ ap (handed d k) (same-blocks d w k now address long ∙ stored .1)
+      good-read-hands-out d reading (lent now out) k reads is-read good-read ∙ ap (handed d k) (same-blocks d w k now address long ∙ stored .1)
 
   -- and gives back what was written: the user data where both are 000, the whole blocks where neither is
-  pub read-after-write : whole d k ≡ whole d w → executed d now reading out .buffer ≡ buffer
-  read-after-write same = read-gives-what-was-stored ∙ handed-back d w segment buffer (stored .0) is-write k long same
+  pub read-after-write : whole d k ≡ whole d w → executed d reading (lent now out) .left .buffer ≡ l .buffer
+  read-after-write same = read-gives-what-was-stored ∙ handed-back d w l (stored .0) is-write k long same
 
 -- ---- demand 2: a transfer otherwise in order is refused exactly when an interval under check is wrong
 
--- what goes on was served
-served-when : (c : Command) (d : Description) (b : ℕ) (p q : Bool) (x : Decoded)
-    → cond p (Refused (answers.Refused reasons.DescriptionBad)) (cond q (Refused (answers.Refused reasons.SegmentLengthWrong)) (admitDecoded d x b)) ≡ Go c → x ≡ Served c
-served-when c d b true q x e = let z : _≡_ {A = ℕ} 0 1 = cc in absurd (omega arith)
-served-when c d b false true x e = let z : _≡_ {A = ℕ} 0 1 = cc in absurd (omega arith)
-served-when c d b false false (decoded.Refused a) e = let z : _≡_ {A = ℕ} 0 1 = cc in absurd (omega arith)
-served-when c d b false false (Served k) e = ap Served (by (isGood (refusal d k b)) e)
-  where
-    by : (g : Bool) → cond g (Go k) (Refused (refusal d k b)) ≡ Go c → k ≡ c
-    by true f = cc
-    by false f = let z : _≡_ {A = ℕ} 0 1 = cc in absurd (omega arith)
-
-pub in-order-served : (d : Description) (segment : ℕ) (command : List ℕ) (buffer : ℕ) (c : Command) → admitted d segment command buffer ≡ Go c
-    → decode command ≡ Served c
-unfolding admitted
-in-order-served d segment command buffer c =
-    served-when c d buffer (not (isSegment d)) (not (eqb segment (lengthOf d))) (decode command)
-
--- what is judged: the blocks under check, none where nothing is
-pick-none : (b : Bool) (d : Description) (c : Command) (s : List ℕ)
-    → cond b answers.Good (judgeBlocks (rulesOf d c) (c .length) (startOf d c) s) ≡ judgeBlocks (rulesOf d c) (cond b 0 (c .length)) (startOf d c) s
-unfolding judgeBlocks firstOf
-pick-none true d c s = refl
-pick-none false d c s = refl
-
-judged-for : (d : Description) (c : Command) (segment buffer : List ℕ) (o : Operation)
-    → judgedFor o d c segment buffer ≡ judgeBlocks (rulesOf d c) (checkedBlocks o d c) (startOf d c) (underCheck o d c segment buffer)
-unfolding judgedIn judgeBlocks firstOf
-judged-for d c segment buffer Read = pick-none (eqb (d .kind) 0) d c (blocksOf d c segment)
-judged-for d c segment buffer Verify = pick-none (eqb (d .kind) 0) d c (blocksOf d c segment)
-judged-for d c segment buffer Write = by (eqb (c .code) 0)
-  where
-    by : (z : Bool) → cond z answers.Good (judgedIn d c buffer)
-        ≡ judgeBlocks (rulesOf d c) (cond z 0 (cond (eqb (d .kind) 0) 0 (c .length))) (startOf d c) buffer
-    by true = refl
-    by false = pick-none (eqb (d .kind) 0) d c buffer
-
--- the answer of a command in order
-pub performed-answer : (d : Description) (c : Command) (segment buffer : List ℕ) → performed d c segment buffer .answer
-    ≡ judgeBlocks (rulesOf d c) (checkedBlocks (c .operation) d c) (startOf d c) (underCheck (c .operation) d c segment buffer)
-unfolding performed judged
-performed-answer d c segment buffer =
-    answer-for (judged d c segment buffer) d c segment buffer (c .operation) ∙ judged-for d c segment buffer (c .operation)
-
-module _ (d : Description) (segment command buffer : List ℕ) (c : Command)
-    (bytes : Bytes command) (in-order : admitted d (length segment) command (length buffer) ≡ Go c) where
-  abbrev checked : List ℕ
-  checked = underCheck (c .operation) d c segment buffer
-
-  abbrev count : ℕ
-  count = checkedBlocks (c .operation) d c
-
+module _ (d : Description) (command : List ℕ) (l : Lent) (c : Command)
+    (bytes : Bytes command) (in-order : admitted d (lengthsOf l) command ≡ Go c) where
   small : firstTag d c < 2 ^ 32
-  small = tag-small d c (served-bounded command c (in-order-served d (length segment) command (length buffer) c in-order) bytes .tag)
+  small = tag-small d c (served-bounded command c (admitted-served d (lengthsOf l) command c in-order) bytes .tag)
 
-  answer-is : executed d segment command buffer .answer ≡ judgeBlocks (rulesOf d c) count (startOf d c) checked
-  unfolding executed
-  answer-is = rw in-order (performed-answer d c segment buffer)
+  abbrev judgedSide : Side → Answer
+  judgedSide side = judgedOn side d c (underCheck side d c l)
+
+  answer-is : executed d command l .answer ≡ orElse (judgedSide Sent) (judgedSide Stored)
+  unfolding executed performed judged
+  answer-is = rw in-order refl
+
+  right-side : (side : Side) → (judgedSide side ≡ answers.Good) ↔ AllRight side d c l
+  right-side side = side-good side d c (underCheck side d c l) small
 
   -- "a transfer with no wrong interval is good", and no other is
-  pub good-exactly-when-all-right : (executed d segment command buffer .answer ≡ answers.Good)
-      ↔ ((j i : ℕ) → j < checkedBlocks (c .operation) d c → i < intervalsOf d
-      → verdictAt d c (underCheck (c .operation) d c segment buffer) j i ≡ answers.Good)
-  good-exactly-when-all-right = rw answer-is (blocks-good d c checked small count)
+  pub good-exactly-when-all-right : (executed d command l .answer ≡ answers.Good) ↔ ((side : Side) → AllRight side d c l)
+  good-exactly-when-all-right = rw answer-is (λ e. each (orElse-good (judgedSide Sent) (judgedSide Stored) .0 e), λ f. orElse-good (judgedSide Sent) (judgedSide Stored) .1 (right-side Sent .1 (f Sent), right-side Stored .1 (f Stored)))
+    where
+      each : (judgedSide Sent ≡ answers.Good) × (judgedSide Stored ≡ answers.Good) → (side : Side) → AllRight side d c l
+      each two Sent = right-side Sent .0 (two .0)
+      each two Stored = right-side Stored .0 (two .1)
 
   -- 8, 9 or 10 with the first wrong interval's address and place: all before it are right
-  pub refused-names-the-first-wrong : isGood (executed d segment command buffer .answer) ≡ false
-      → FirstWrongInterval d c (checkedBlocks (c .operation) d c) (underCheck (c .operation) d c segment buffer)
-      (executed d segment command buffer .answer)
-  refused-names-the-first-wrong = rw answer-is (blocks-wrong d c checked small count)
+  pub refused-names-the-first-wrong : isGood (executed d command l .answer) ≡ false → FirstWrong d c l (executed d command l .answer)
+  refused-names-the-first-wrong = rw answer-is (λ w. by w (good-or (judgedSide Sent)))
+    where
+      by : isGood (orElse (judgedSide Sent) (judgedSide Stored)) ≡ false → (judgedSide Sent ≡ answers.Good) ⊎ (isGood (judgedSide Sent) ≡ false)
+          → FirstWrong d c l (orElse (judgedSide Sent) (judgedSide Stored))
+      by w (inl g) =
+          rw g
+          (record {
+            side = Stored;
+            sent-right = λ e. right-side Sent .0 g;
+            first = side-wrong Stored d c (underCheck Stored d c l) small (rw g at w);
+          })
+      by w (inr n) =
+          rw n
+          (record {
+            side = Sent;
+            sent-right = λ e. let z : _≡_ {A = ℕ} 0 1 = cc in absurd (omega arith);
+            first = side-wrong Sent d c (underCheck Sent d c l) small n;
+          })
 
   -- "in one interval guard, application, reference": of each, what its verdict says
-  pub guard-application-reference : (j i : ℕ)
-      → let r = rulesOf d c in
-      let s = intervalAt d (underCheck (c .operation) d c segment buffer) j i in
+  pub guard-application-reference : (side : Side) (j i : ℕ)
+      → let r = rulesOf side d c in
+      let s = intervalAt d (underCheck side d c l) j i in
       let f = fieldOf (sizeOf d) s in
       Verdict (guardWrong r (dataOf (sizeOf d) s) f) (applicationWrong r f) (referenceWrong r (placeAt d c j i) f)
       (c .address + j) (j * intervalsOf d + i) (judgeInterval r (placeAt d c j i) s)
   unfolding rulesOf
-  guard-application-reference j i = interval-verdict (rulesOf d c) (placeAt d c j i) (intervalAt d checked j i)
+  guard-application-reference side j i =
+      interval-verdict (rulesOf side d c) (placeAt d c j i) (intervalAt d (underCheck side d c l) j i)
 
 -- ---- a command in order or not
-
-good-is : (a : Answer) → isGood a ≡ true → a ≡ answers.Good
-good-is a g = ⊎-elim (λ e. e) (λ w. absurd (true≢false (sym g ∙ w))) (good-or a)
 
 wrong-is : (a : Answer) → forProtection a ≡ true → isGood a ≡ false
 wrong-is a p = ⊎-elim (λ g. absurd (true≢false (sym p ∙ ap forProtection g))) (λ w. w) (good-or a)
@@ -343,23 +315,23 @@ wrong-is a p = ⊎-elim (λ g. absurd (true≢false (sym p ∙ ap forProtection 
 between : (n : ℕ) → 8 ≤ n → n ≤ 10 → leb 8 n && leb n 10 ≡ true
 between n l m = rw (le-leb 8 n l, le-leb n 10 m)
 
-module _ (d : Description) (segment command buffer : List ℕ) (bytes : Bytes command) where
+module _ (d : Description) (command : List ℕ) (l : Lent) (bytes : Bytes command) where
   abbrev answered : Answer
-  answered = executed d segment command buffer .answer
+  answered = executed d command l .answer
 
-  refused-is-wrong : forProtection answered ≡ true → (x : Admitted) → admitted d (length segment) command (length buffer) ≡ x
-      → WrongInterval d segment command buffer
+  refused-is-wrong : forProtection answered ≡ true → (x : Admitted) → admitted d (lengthsOf l) command ≡ x → WrongInterval d command l
   unfolding executed
   refused-is-wrong p (Refused a) e =
       absurd
       (true≢false
-      (sym p ∙ ap (λ (x : Admitted). forProtection (executedAs x d segment buffer .answer)) e
-      ∙ not-in-order-names-no-interval d (length segment) command (length buffer) a e))
+      (sym p ∙ ap (λ (x : Admitted). forProtection (executedAs x d l .answer)) e ∙ not-in-order-names-no-interval d (lengthsOf l) command a e))
   refused-is-wrong p (Go c) e =
-      let f = refused-names-the-first-wrong d segment command buffer c bytes e (wrong-is answered p) in
+      let first = refused-names-the-first-wrong d command l c bytes e (wrong-is answered p) in
+      let f = first .first in
       record {
         transfer = c;
         in-order = e;
+        side = first .side;
         block = f .block;
         interval = f .interval;
         block-within = f .block-within;
@@ -367,86 +339,95 @@ module _ (d : Description) (segment command buffer : List ℕ) (bytes : Bytes co
         wrong = rw (f .checked) (ap isGood (f .here) ∙ f .wrong);
       }
 
-  wrong-is-refused : WrongInterval d segment command buffer → forProtection answered ≡ true
+  wrong-is-refused : WrongInterval d command l → forProtection answered ≡ true
   wrong-is-refused w =
       let c = w .transfer in
-      let right = good-exactly-when-all-right d segment command buffer c bytes (w .in-order) in
+      let right = good-exactly-when-all-right d command l c bytes (w .in-order) in
       let no-good : answered ≡ answers.Good → ⊥ =
-      λ g. true≢false (sym (ap isGood (right .0 g (w .block) (w .interval) (w .block-within) (w .interval-within))) ∙ w .wrong) in
+      λ g. true≢false (sym (ap isGood (right .0 g (w .side) (w .block) (w .interval) (w .block-within) (w .interval-within))) ∙ w .wrong) in
       let wrong : isGood answered ≡ false = ⊎-elim (λ g. absurd (no-good g)) (λ b. b) (good-or answered) in
-      let named = refused-names-the-first-wrong d segment command buffer c bytes (w .in-order) wrong .names in
+      let named = refused-names-the-first-wrong d command l c bytes (w .in-order) wrong .first .names in
       between (numberOf answered) (named .least) (named .most)
 
   -- "refused for protection exactly when an interval under check is wrong", of every command
-  pub refused-exactly-when-wrong : (forProtection (executed d segment command buffer .answer) ≡ true) ↔ WrongInterval d segment command buffer
-  refused-exactly-when-wrong = (λ p. refused-is-wrong p (admitted d (length segment) command (length buffer)) refl, wrong-is-refused)
+  pub refused-exactly-when-wrong : (forProtection (executed d command l .answer) ≡ true) ↔ WrongInterval d command l
+  refused-exactly-when-wrong = (λ p. refused-is-wrong p (admitted d (lengthsOf l) command) refl, wrong-is-refused)
 
 -- ---- a READ that asks as a good WRITE asked is good
 
-refusal-same : (d : Description) (c : Command) (b : ℕ) → isVerify (c .operation) ≡ false → refusal d (asRead c) b ≡ refusal d c b
-unfolding refusal typeRules codeRule checkRule rangeRule sizeRule movedOf bufferRule bufferOf
-refusal-same d c b v = rw v
+refusal-same : (d : Description) (c : Command) (l : Lengths) → isVerify (c .operation) ≡ false → refusal d (asRead c) l ≡ refusal d c l
+unfolding refusal typeRules codeRule checkRule sizeRule movedOf bufferRule bufferOf
+refusal-same d c l v = rw v
 
-passed : (p q g g′ : Bool) (r r′ : Answer) (c k : Command) → g′ ≡ g
-    → cond p (Refused (answers.Refused reasons.DescriptionBad)) (cond q (Refused (answers.Refused reasons.SegmentLengthWrong)) (cond g (Go c) (Refused r))) ≡ Go c
-    → cond p (Refused (answers.Refused reasons.DescriptionBad)) (cond q (Refused (answers.Refused reasons.SegmentLengthWrong)) (cond g′ (Go k) (Refused r′))) ≡ Go k
-passed true q g g′ r r′ c k same e = let z : _≡_ {A = ℕ} 0 1 = cc in absurd (omega arith)
-passed false true g g′ r r′ c k same e = let z : _≡_ {A = ℕ} 0 1 = cc in absurd (omega arith)
-passed false false false g′ r r′ c k same e = let z : _≡_ {A = ℕ} 0 1 = cc in absurd (omega arith)
-passed false false true g′ r r′ c k same e = rw same refl
+passed : (s g g′ : Bool) (x r r′ : Answer) (c k : Command) → g′ ≡ g → cond s (cond g (Go c) (Refused r)) (Refused x) ≡ Go c
+    → cond s (cond g′ (Go k) (Refused r′)) (Refused x) ≡ Go k
+passed true true g′ x r r′ c k same e = rw same refl
+passed true false g′ x r r′ c k same e = let z : _≡_ {A = ℕ} 0 1 = cc in absurd (omega arith)
+passed false g g′ x r r′ c k same e = let z : _≡_ {A = ℕ} 0 1 = cc in absurd (omega arith)
 
-module _ (d : Description) (segment writing buffer reading out : List ℕ) (w : Command) (bytes : Bytes writing)
-    (writes : decode writing ≡ Served w) (is-write : w .operation ≡ Write) (good-write : isGood (executed d segment writing buffer .answer) ≡ true)
-    (reads : decode reading ≡ Served (asRead w)) (room : length out ≡ length buffer) where
-  abbrev then : List ℕ
-  then = executed d segment writing buffer .segment
+module _ (d : Description) (writing : List ℕ) (l : Lent) (reading out : List ℕ) (w : Command) (bytes : Bytes writing)
+    (writes : decode writing ≡ Served w) (is-write : w .operation ≡ Write) (good-write : isGood (executed d writing l .answer) ≡ true)
+    (reads : decode reading ≡ Served (asRead w)) (room : length out ≡ length (l .buffer)) where
+  abbrev then : Lent
+  then = lent (executed d writing l .left .segment) out
 
-  write-went : admitted d (length segment) writing (length buffer) ≡ Go w
-  write-went = good-in-order d segment writing buffer w writes good-write
+  write-went : admitted d (lengthsOf l) writing ≡ Go w
+  write-went = good-in-order d writing l w writes good-write
 
-  read-went : admitted d (length then) reading (length out) ≡ Go (asRead w)
+  lengths-same : lengthsOf then ≡ lengthsOf l
+  lengths-same = rw (good-write-keeps-other-blocks d writing l w writes .long, room)
+
+  as-read-went : admitted d (lengthsOf l) reading ≡ Go (asRead w)
   unfolding admitted
-  read-went =
-      rw (good-write-keeps-other-blocks d segment writing buffer w writes .long, room, reads)
-      (passed (not (isSegment d)) (not (eqb (length segment) (lengthOf d))) (isGood (refusal d w (length buffer))) (isGood (refusal d (asRead w) (length buffer)))
-      (refusal d w (length buffer)) (refusal d (asRead w) (length buffer)) w (asRead w)
-      (ap isGood (refusal-same d w (length buffer) (ap isVerify is-write))) (rw writes at write-went))
+  as-read-went =
+      rw reads
+      (passed (isGood (segmentRules d (length (l .segment)))) (isGood (refusal d w (lengthsOf l))) (isGood (refusal d (asRead w) (lengthsOf l)))
+      (segmentRules d (length (l .segment))) (refusal d w (lengthsOf l)) (refusal d (asRead w) (lengthsOf l)) w (asRead w)
+      (ap isGood (refusal-same d w (lengthsOf l) (ap isVerify is-write))) (rw writes at write-went))
 
-  was-stored : Ready d w (length segment) (length buffer) × (blocksOf d w then ≡ received d w buffer)
-  was-stored = good-write-stores d segment writing buffer w writes is-write good-write
+  read-went : admitted d (lengthsOf then) reading ≡ Go (asRead w)
+  read-went = ap (λ (x : Lengths). admitted d x reading) lengths-same ∙ as-read-went
 
-  write-judged : cond (eqb (w .code) 0) answers.Good (judgedIn d w buffer) ≡ answers.Good
+  was-stored : Ready d w (lengthsOf l) × (blocksOf d w (then .segment) ≡ received d w (l .buffer))
+  was-stored = good-write-stores d writing l w writes is-write good-write
+
+  write-judged : judgedOn Sent d w (l .buffer) ≡ answers.Good
   unfolding executed performed judged
-  write-judged =
-      ap (λ o. judgedFor o d w segment buffer) (sym is-write) ∙ sym (answer-for (judged d w segment buffer) d w segment buffer (w .operation))
-      ∙ good-is _ (rw write-went at good-write)
+  write-judged = orElse-good (judgedOn Sent d w (l .buffer)) _ .0 (good-is _ (rw write-went at good-write)) .0
 
-  accepted : judgedIn d (asRead w) (received d w buffer) ≡ answers.Good
-  accepted = by (eqb (d .kind) 0) refl (eqb (w .code) 0) refl write-judged
+  -- the blocks that were stored, judged as stored ones
+  accepted : judgedOn Stored d (asRead w) (received d w (l .buffer)) ≡ answers.Good
+  accepted = by (eqb (d .kind) 0) refl (eqb (w .code) 0) refl
     where
       bounded : Bounded w
       bounded = served-bounded writing w writes bytes
 
-      by : (k : Bool) → eqb (d .kind) 0 ≡ k → (z : Bool) → eqb (w .code) 0 ≡ z → cond z answers.Good (judgedIn d w buffer) ≡ answers.Good
-          → judgedIn d (asRead w) (received d w buffer) ≡ answers.Good
-      by true k z e g = judged-plain d (asRead w) (received d w buffer) (eqb-true (d .kind) 0 k)
-      by false k true e g =
+      by : (k : Bool) → eqb (d .kind) 0 ≡ k → (z : Bool) → eqb (w .code) 0 ≡ z → judgedOn Stored d (asRead w) (received d w (l .buffer)) ≡ answers.Good
+      by true k z e = judged-none Stored d (asRead w) _ (checked-plain Stored d (asRead w) (eqb-true (d .kind) 0 k))
+      by false k true e =
           let parts = whole-not d w (eqb-false (d .kind) 0 k) (eqb-true (w .code) 0 e) in
-          judged-fields d (asRead w) (received d w buffer) (eqb-false (d .kind) 0 k)
-          ∙ ap (judgeBlocks (rulesOf d (asRead w)) (w .length) (startOf d (asRead w))) (sym (inserted d w segment buffer (was-stored .0) is-write parts))
-          ∙ inserted-accepted d w (bounded .application) (bounded .tag) buffer (le-of-eq (enough d w segment buffer (was-stored .0) is-write parts))
-      by false k false e g =
+          judged-all Stored d (asRead w) _ (eqb-false (d .kind) 0 k) refl
+          ∙ ap (judgeBlocks (rulesOf Stored d (asRead w)) (w .length) (startOf d (asRead w))) (sym (inserted d w l (was-stored .0) is-write parts))
+          ∙ inserted-accepted d w (bounded .application) (bounded .tag) (l .buffer) (le-of-eq (enough d w l (was-stored .0) is-write parts))
+      by false k false e =
           let n = eqb-false (d .kind) 0 k in
-          judged-fields d (asRead w) (received d w buffer) n
-          ∙ ap (judgeBlocks (rulesOf d (asRead w)) (w .length) (startOf d (asRead w))) (received-whole d w buffer (whole-code d w n (eqb-false (w .code) 0 e)))
-          ∙ received-accepted d w buffer is-write (w .length) (tag-small d w (bounded .tag)) (sym (judged-fields d w buffer n) ∙ g)
+          let sends : checksOn Sent (w .operation) w ≡ true = ap (λ (o : Operation). checksOn Sent o w) is-write ∙ ap not e in
+          judged-all Stored d (asRead w) _ n refl
+          ∙ ap (judgeBlocks (rulesOf Stored d (asRead w)) (w .length) (startOf d (asRead w))) (received-whole d w (l .buffer) (whole-code d w n (eqb-false (w .code) 0 e)))
+          ∙ received-accepted d w (l .buffer) (w .length) (tag-small d w (bounded .tag)) (sym (judged-all Sent d w (l .buffer) n sends) ∙ write-judged)
 
-  read-good : executed d then reading out .answer ≡ answers.Good
+  read-good : executed d reading then .answer ≡ answers.Good
   unfolding executed performed judged
-  read-good = rw read-went (ap (judgedIn d (asRead w)) (same-blocks d w (asRead w) then refl refl ∙ was-stored .1) ∙ accepted)
+  read-good =
+      rw read-went
+      (orElse-good (judgedOn Sent d (asRead w) out) _ .1 (
+        judged-none Sent d (asRead w) out (checked-none Sent d (asRead w) refl),
+        ap (judgedOn Stored d (asRead w)) (same-blocks d w (asRead w) (then .segment) refl refl ∙ was-stored .1) ∙ accepted,
+      ))
 
   -- the same address, length, protect code and tags: the READ is good, and gives back the WRITE's buffer
-  pub written-reads-back : (executed d then reading out .answer ≡ answers.Good) × (executed d then reading out .buffer ≡ buffer)
+  pub written-reads-back : (executed d reading (lent (executed d writing l .left .segment) out) .answer ≡ answers.Good)
+      × (executed d reading (lent (executed d writing l .left .segment) out) .left .buffer ≡ l .buffer)
   unfolding whole
   written-reads-back =
-      (read-good, read-after-write d segment writing buffer reading out w (asRead w) writes is-write good-write reads refl (ap isGood read-good) refl refl refl)
+      (read-good, read-after-write d writing l reading out w (asRead w) writes is-write good-write reads refl (ap isGood read-good) refl refl refl)

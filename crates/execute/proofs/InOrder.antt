@@ -1,16 +1,17 @@
 -- A command that is not in order is answered by a number before 8 or after 10: no refusal of admission names an interval.
 -- Assumes nothing.
 use mathlib.Core.Path.{_≡_, refl}
-use mathlib.Core.Bool.{Bool, true, false, not, _&&_, cond}
+use mathlib.Core.Bool.{Bool, true, false, not, _&&_, _||_, cond}
 use mathlib.Core.List.{List}
-use Prim.Native.Nat.{ℕ}
-use lib.Dec.{eqb}
+use Prim.Native.Nat.{ℕ, _+_}
+use lib.Dec.{eqb, ltb}
 use Rattle.answer.specs.Answer.{isGood, forProtection, orElse, refusedIf}
 use Rattle.answer.specs.declared.Answer.{Answer}
 use Rattle.answer.specs.declared.Reason.{Reason}
 use Rattle.answer.specs.declared.Reason.the-variants as reasons
 use Rattle.answer.proofs.Demands.{refused-for-no-field}
 use Rattle.segment.specs.declared.Description.{Description}
+use Rattle.segment.specs.Segment.{isSegment, lengthOf}
 use Rattle.segment.specs.Rules.{descriptionRule, lengthRule, segmentRules}
 use Rattle.segment.specs.Places.{rangeRule}
 use Rattle.command.specs.declared.Command.{Command}
@@ -18,7 +19,7 @@ use Rattle.command.specs.declared.Decoded.{Decoded}
 use Rattle.command.specs.declared.Decoded.the-variants as decoded
 use Rattle.command.specs.Command.{decode}
 use Rattle.refusal.specs.declared.Lengths.{Lengths}
-use Rattle.refusal.specs.Refusal.{typeRules, codeRule, checkRule, sizeRule, bufferRule, refusal}
+use Rattle.refusal.specs.Refusal.{typeRules, codeRule, checkRule, movedOf, sizeRule, bufferOf, bufferRule, refusal}
 use Rattle.admission.specs.declared.Admitted.{Admitted}
 use Rattle.admission.specs.declared.Admitted.the-variants.{Refused, Go}
 use Rattle.admission.specs.Admission.{admitDecoded, admitted}
@@ -41,7 +42,9 @@ or-else x y p q = pick Other (isGood x) y x q p
 -- ---- the segment, and the command's fields
 segment-other : (d : Description) (n : ℕ) → Other (segmentRules d n)
 unfolding segmentRules descriptionRule lengthRule
-segment-other d n = or-else (descriptionRule d) (lengthRule d n) (rule-other _ _) (rule-other _ _)
+segment-other d n =
+    or-else (descriptionRule d) (lengthRule d n) (rule-other (not (isSegment d)) reasons.DescriptionBad)
+    (rule-other (not (eqb n (lengthOf d))) reasons.SegmentLengthWrong)
 
 types-other : (d : Description) (c : Command) → Other (typeRules d c)
 unfolding typeRules
@@ -54,10 +57,12 @@ refusal-other : (d : Description) (c : Command) (l : Lengths) → Other (refusal
 unfolding refusal codeRule checkRule rangeRule sizeRule bufferRule
 refusal-other d c l =
     or-else (typeRules d c) _ (types-other d c)
-    (or-else (codeRule c) _ (rule-other _ _)
-    (or-else (checkRule c) _ (rule-other _ _)
-    (or-else (rangeRule d (c .address) (c .length)) _ (rule-other _ _)
-    (or-else (sizeRule d c) _ (rule-other _ _) (rule-other _ _)))))
+    (or-else (codeRule c) _ (rule-other (ltb 0b101 (c .code)) reasons.FieldInvalid)
+    (or-else (checkRule c) _ (rule-other (not (eqb (c .check) 0)) reasons.FieldInvalid)
+    (or-else (rangeRule d (c .address) (c .length)) _
+    (rule-other (ltb (c .address) (d .first) || ltb (d .first + d .count) (c .address + c .length)) reasons.AddressOutOfRange)
+    (or-else (sizeRule d c) _ (rule-other (ltb 4294967295 (movedOf d c)) reasons.TransferTooLarge)
+    (rule-other (not (eqb (l .buffer) (bufferOf d c))) reasons.BufferLengthWrong)))))
 
 -- ---- all that admission refuses
 abbrev AdmittedOther : Admitted → Type 0

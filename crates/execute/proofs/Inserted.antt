@@ -18,6 +18,7 @@ use Rattle.answer.specs.Answer.{isGood}
 use Rattle.answer.specs.declared.Answer.the-variants as answers
 use Rattle.segment.specs.declared.Description.{Description}
 use Rattle.segment.specs.Segment.{intervalsOf, sizeOf}
+use Rattle.segment.specs.Places.{intervalAt}
 use Rattle.segment.proofs.Laws.{sizes}
 use Rattle.command.specs.Command.{decode}
 use Rattle.command.specs.declared.Command.{Command}
@@ -35,8 +36,8 @@ use Rattle.blocks.proofs.Pieces.{one-within, rest-within}
 use Rattle.words.proofs.Parts.{one-more, drop-more}
 use Rattle.rules.specs.Rules.{firstTag}
 use Rattle.rules.specs.Inserted.{insertedReference, marksOf}
-use Rattle.rules.specs.Intervals.{intervalAt}
 use Rattle.admission.specs.Ready.{Ready}
+use Rattle.execute.specs.Lent.{Lent, lengthsOf}
 use Rattle.transfer.specs.Transfer.{blocksOf, received}
 use Rattle.execute.specs.Execute.{executed}
 use Rattle.execute.specs.Inserted.{insertedReferenceAt, userDataAt, InsertedAt}
@@ -142,11 +143,11 @@ reference-of k false a t n j i (inr (inl e)) =
 reference-of k l a t n j i (inr (inr e)) = rw (e, mul-zero) refl
 
 -- ---- a good WRITE with 000
-module _ (d : Description) (segment command buffer : List ℕ) (c : Command) (bytes : Bytes command) (served : decode command ≡ Served c)
+module _ (d : Description) (command : List ℕ) (l : Lent) (c : Command) (bytes : Bytes command) (served : decode command ≡ Served c)
     (is-write : c .operation ≡ Write) (zero-code : c .code ≡ 0) (fields : d .kind ≡ 0 → ⊥)
-    (good : executed d segment command buffer .answer ≡ answers.Good) where
-  stored : Ready d c (length segment) (length buffer) × (blocksOf d c (executed d segment command buffer .segment) ≡ received d c buffer)
-  stored = good-write-stores d segment command buffer c served is-write (ap isGood good)
+    (good : executed d command l .answer ≡ answers.Good) where
+  stored : Ready d c (lengthsOf l) × (blocksOf d c (executed d command l .left .segment) ≡ received d c (l .buffer))
+  stored = good-write-stores d command l c served is-write (ap isGood good)
 
   bounded : Bounded c
   bounded = served-bounded command c served bytes
@@ -157,19 +158,20 @@ module _ (d : Description) (segment command buffer : List ℕ) (c : Command) (by
       reference-of (d .kind) (c .long) (c .address) (c .tag) (intervalsOf d) j i (one-two-three (d .kind) (stored .0 .described .kind) fields)
 
   -- of each interval of the transfer
-  pub inserted-fields : (j i : ℕ) → j < c .length → i < intervalsOf d → InsertedAt d c (blocksOf d c (executed d segment command buffer .segment)) buffer j i
+  pub inserted-fields : (j i : ℕ) → j < c .length → i < intervalsOf d → InsertedAt d c (blocksOf d c (executed d command l .left .segment)) (l .buffer) j i
   unfolding marksOf
-  inserted-fields j i h l =
+  inserted-fields j i h k =
+      let buffer = l .buffer in
       let size = sizeOf d in
       let n = intervalsOf d in
       let m = marksAfter (j * n + i) (marksOf d c) in
       let source = drop (i * size) (drop (j * (n * size)) buffer) in
       let parts = whole-not d c fields zero-code in
-      let all = le-of-eq (enough d c segment buffer (stored .0) is-write parts) in
+      let all = le-of-eq (enough d c l (stored .0) is-write parts) in
       let tag = small-reference d c (bounded .application) (bounded .tag) in
-      let long = source-long size n (c .length) (marksOf d c) buffer tag all j i h l in
-      let found = interval-there size n (c .length) (marksOf d c) buffer tag all j i h l in
-      let made = stored .1 ∙ sym (inserted d c segment buffer (stored .0) is-write parts) in
+      let long = source-long size n (c .length) (marksOf d c) buffer tag all j i h k in
+      let found = interval-there size n (c .length) (marksOf d c) buffer tag all j i h k in
+      let made = stored .1 ∙ sym (inserted d c l (stored .0) is-write parts) in
       let here = ap (λ (x : List ℕ). intervalAt d x j i) made ∙ found .1 in
       let field = field-there size m source (found .0) _ long here in
       let same : take size source ≡ userDataAt d buffer j i =

@@ -1,4 +1,3 @@
-pub mod Spans
 pub mod Outcomes
 pub mod Stored
 pub mod Wrong

@@ -8,9 +8,10 @@ use native.Mathlib.Omega.{arith}
 use borrow.Author.Tests.{eqb-false, not-true, not-false}
 use lib.Dec.{eqb}
 use lib.ListN.{length, take, drop}
+use Rattle.words.specs.Parts.{put}
 use Rattle.words.proofs.BigEndian.{part-length}
 use Rattle.words.proofs.Choice.{never}
-use Rattle.answer.specs.Answer.{isGood, orElse}
+use Rattle.answer.specs.Answer.{isGood}
 use Rattle.answer.specs.Outcome.{outcome}
 use Rattle.answer.specs.declared.Answer.{Answer}
 use Rattle.segment.specs.declared.Description.{Description}
@@ -23,17 +24,17 @@ use Rattle.command.specs.declared.Operation.the-variants.{Read, Write, Verify}
 use Rattle.refusal.specs.declared.Lengths.{Lengths}
 use Rattle.refusal.specs.Refusal.{isVerify}
 use Rattle.refusal.proofs.Rules.{room-moved}
-use Rattle.rules.specs.declared.Side.the-variants.{Sent, Stored}
+use Rattle.rules.specs.declared.Side.the-variants.{Sent}
 use Rattle.rules.specs.Sides.{checksOn}
 use Rattle.rules.proofs.Laws.{checks-all}
 use Rattle.admission.specs.declared.Admitted.the-variants.{Refused, Go}
 use Rattle.admission.specs.Admission.{admitted}
 use Rattle.admission.specs.Ready.{Ready}
-use Rattle.transfer.specs.Lent.{Lent, lent, lengthsOf}
-use Rattle.transfer.specs.Transfer.{blocksOf, judgedOn, judged, handed, received, overwritten, movedFor, performed}
+use Rattle.execute.specs.Lent.{Lent, lent, lengthsOf}
+use Rattle.transfer.specs.Transfer.{blocksOf, judged, handed, received}
 use Rattle.transfer.specs.Inner.{Shaped, Sided, Fitted}
 use Rattle.transfer.proofs.Shapes.{moved-span}
-use Rattle.execute.specs.Execute.{executed}
+use Rattle.execute.specs.Execute.{overwritten, movedFor, performed, executed}
 
 -- ---- what admission settled
 module _ {d : Description} {c : Command} {l : Lengths} (r : Ready d c l) where
@@ -73,23 +74,43 @@ blocks-are d c at w segment e f = let same : at + w - at ≡ w = omega arith in 
 
 -- ---- judged, and by the operation
 module _ (d : Description) (c : Command) (segment buffer stored : List ℕ) (a : Answer) (g : Bool) (s : stored ≡ blocksOf d c segment)
-    (e : a ≡ orElse (judgedOn Sent d c buffer) (judgedOn Stored d c stored)) (t : g ≡ isGood a) where
-  judged-is : a ≡ judged d c (lent segment buffer)
-  unfolding judged
-  judged-is = e ∙ ap (λ (x : List ℕ). orElse (judgedOn Sent d c buffer) (judgedOn Stored d c x)) s
+    (e : a ≡ judged d c buffer stored) (t : g ≡ isGood a) where
+  judged-is : a ≡ judged d c buffer (blocksOf d c segment)
+  judged-is = e ∙ ap (judged d c buffer) s
 
   pub refused-performed : not g ≡ true → outcome a (lent segment buffer) ≡ performed d c (lent segment buffer)
   unfolding performed
   refused-performed n = rw (← judged-is, sym t ∙ not-true g n)
 
+  moved-performed : not g ≡ false → outcome a (movedFor (c .operation) d c (lent segment buffer)) ≡ performed d c (lent segment buffer)
+  unfolding performed
+  moved-performed n = rw (← judged-is, sym t ∙ not-false g n)
+
   good-performed : not g ≡ false → (o : Operation) → c .operation ≡ o → (left : Lent) → left ≡ movedFor o d c (lent segment buffer)
       → outcome a left ≡ performed d c (lent segment buffer)
-  unfolding performed
-  good-performed n o f left m = rw (← judged-is, sym t ∙ not-false g n, f) (ap (outcome a) m)
+  good-performed n o f left m =
+      ap (outcome a) (m ∙ ap (λ (x : Operation). movedFor x d c (lent segment buffer)) (sym f)) ∙ moved-performed n
 
   pub read-performed : not g ≡ false → c .operation ≡ Read → (left : List ℕ) → left ≡ handed d c stored
       → outcome a (lent segment left) ≡ performed d c (lent segment buffer)
   read-performed n o left m = good-performed n Read o _ (ap (lent segment) (m ∙ ap (handed d c) s))
 
+  pub write-performed : not g ≡ false → c .operation ≡ Write → (at : ℕ) → at ≡ offsetOf d (c .address) → (left : List ℕ)
+      → left ≡ put at (received d c buffer) segment → outcome a (lent left buffer) ≡ performed d c (lent segment buffer)
+  unfolding overwritten
+  write-performed n o at f left m =
+      good-performed n Write o _ (ap (λ (x : List ℕ). lent x buffer) (m ∙ ap (λ (x : ℕ). put x (received d c buffer) segment) f))
+
   pub verify-performed : not g ≡ false → c .operation ≡ Verify → outcome a (lent segment buffer) ≡ performed d c (lent segment buffer)
   verify-performed n o = good-performed n Verify o _ refl
+
+-- ---- by what admission decided
+module _ (d : Description) (command : List ℕ) (l : Lent) where
+  pub refused-outcome : (a : Answer) → admitted d (lengthsOf l) command ≡ Refused a → outcome a l ≡ executed d command l
+  unfolding executed
+  refused-outcome a e = rw e
+
+  pub went-outcome : (c : Command) (a : Answer) (left : Lent) → admitted d (lengthsOf l) command ≡ Go c → outcome a left ≡ performed d c l
+      → outcome a left ≡ executed d command l
+  unfolding executed
+  went-outcome c a left e h = h ∙ rw e

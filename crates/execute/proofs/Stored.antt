@@ -3,14 +3,16 @@
 use mathlib.Core.Path.{_≡_, refl, sym, ap, ap₂, _∙_}
 use mathlib.Core.Bool.{Bool, true, false}
 use mathlib.Core.List.{List}
-use Prim.Native.Nat.{ℕ, _+_, _-_, _*_, _≤_}
+use Prim.Native.Nat.{ℕ, _+_, _*_, _≤_}
 use native.Mathlib.Nat.{le-of-eq}
 use native.Mathlib.Omega.{arith}
-use lib.ListN.{length, take, drop}
+use lib.ListN.{length}
 use lib.Seq.{take-all}
 use Rattle.words.proofs.Parts.{put-length}
 use Rattle.segment.specs.declared.Description.{Description}
-use Rattle.segment.specs.Segment.{intervalsOf, sizeOf, storedOf}
+use Rattle.segment.specs.Segment.{intervalsOf, sizeOf}
+use Rattle.segment.specs.Places.{offsetOf, spanOf, blocksFrom}
+use Rattle.segment.proofs.Places.{span-within}
 use Rattle.command.specs.declared.Command.{Command}
 use Rattle.command.specs.declared.Operation.the-variants.{Write}
 use Rattle.blocks.specs.Blocks.{stripped}
@@ -21,16 +23,22 @@ use Rattle.rules.specs.Inserted.{marksOf}
 use Rattle.refusal.specs.Refusal.{isVerify, movedOf}
 use Rattle.refusal.proofs.Rules.{room-moved}
 use Rattle.admission.specs.Ready.{Ready}
-use Rattle.transfer.specs.Transfer.{offsetOf, spanOf, blocksOf, whole, handed, received}
+use Rattle.execute.specs.Lent.{Lent, lengthsOf}
+use Rattle.transfer.specs.Transfer.{blocksOf, whole, handed, received}
 use Rattle.execute.specs.Execute.{overwritten}
 use Rattle.execute.specs.Compared.{Beside}
 use Rattle.transfer.proofs.Shapes.{span-intervals, moved-intervals, moved-when-whole, parted, handed-whole, handed-parted, received-whole, received-parted}
-use Rattle.execute.proofs.Spans.{span-within}
 
 pub beside-itself : (d : Description) (c : Command) (s : List ℕ) → Beside d c s s
 beside-itself d c s = record { before = refl; behind = refl; long = refl }
 
-module _ (d : Description) (c : Command) (segment buffer : List ℕ) (r : Ready d c (length segment) (length buffer)) (w : c .operation ≡ Write) where
+module _ (d : Description) (c : Command) (l : Lent) (r : Ready d c (lengthsOf l)) (w : c .operation ≡ Write) where
+  abbrev buffer : List ℕ
+  buffer = l .buffer
+
+  abbrev segment : List ℕ
+  segment = l .segment
+
   room : length buffer ≡ movedOf d c
   room = r .room ∙ room-moved d c (ap isVerify w)
 
@@ -41,45 +49,45 @@ module _ (d : Description) (c : Command) (segment buffer : List ℕ) (r : Ready 
   pub inserted : whole d c ≡ false → storedBlocks (sizeOf d) (intervalsOf d) (c .length) (marksOf d c) buffer ≡ received d c buffer
   inserted e = received-parted d c buffer (sizeOf d) (intervalsOf d) (marksOf d c) e refl refl refl
 
-  pub received-length : length (received d c buffer) ≡ spanOf d c
+  pub received-length : length (received d c buffer) ≡ spanOf d (c .length)
   received-length = by (whole d c) refl
     where
-      by : (b : Bool) → whole d c ≡ b → length (received d c buffer) ≡ spanOf d c
+      by : (b : Bool) → whole d c ≡ b → length (received d c buffer) ≡ spanOf d (c .length)
       by true e = ap length (received-whole d c buffer e) ∙ room ∙ moved-when-whole d c (r .described) (r .plain) e
       by false e =
           ap length (sym (inserted e))
           ∙ blocks-length (sizeOf d) (intervalsOf d) (c .length) (marksOf d c) buffer (le-of-eq (enough e))
           ∙ span-intervals d c (r .described) (parted d c e .fields)
 
-  fits : offsetOf d c + length (received d c buffer) ≤ length segment
-  fits = rw received-length (span-within d c (length segment) (length buffer) r)
+  fits : offsetOf d (c .address) + length (received d c buffer) ≤ length segment
+  fits = rw received-length (span-within d (c .address) (c .length) (length segment) (r .whole) (r .from) (r .to))
 
-  pub overwritten-beside : Beside d c segment (overwritten d c segment buffer)
+  pub overwritten-beside : Beside d c segment (overwritten d c l)
   unfolding overwritten
   overwritten-beside =
       record {
-        before = put-before (offsetOf d c) (received d c buffer) segment fits (offsetOf d c) (omega arith);
-        behind = put-behind (offsetOf d c) (received d c buffer) segment fits (offsetOf d c + spanOf d c) (omega (arith, received-length));
-        long = put-length (offsetOf d c) (received d c buffer) segment fits;
+        before = put-before (offsetOf d (c .address)) (received d c buffer) segment fits (offsetOf d (c .address)) (omega arith);
+        behind = put-behind (offsetOf d (c .address)) (received d c buffer) segment fits (offsetOf d (c .address) + spanOf d (c .length)) (omega (arith, received-length));
+        long = put-length (offsetOf d (c .address)) (received d c buffer) segment fits;
       }
 
-  pub overwritten-there : blocksOf d c (overwritten d c segment buffer) ≡ received d c buffer
-  unfolding overwritten blocksOf
-  overwritten-there = rw (← received-length) (put-there (offsetOf d c) (received d c buffer) segment fits)
+  pub overwritten-there : blocksOf d c (overwritten d c l) ≡ received d c buffer
+  unfolding overwritten blocksOf blocksFrom
+  overwritten-there = rw (← received-length) (put-there (offsetOf d (c .address)) (received d c buffer) segment fits)
 
   -- a READ of as many blocks, of user data or whole blocks as the WRITE was
   pub handed-back : (k : Command) → k .length ≡ c .length → whole d k ≡ whole d c → handed d k (received d c buffer) ≡ buffer
-  handed-back k l same = by (whole d c) refl
+  handed-back k long same = by (whole d c) refl
     where
       by : (b : Bool) → whole d c ≡ b → handed d k (received d c buffer) ≡ buffer
       by true e = handed-whole d k (received d c buffer) (same ∙ e) ∙ received-whole d c buffer e
       by false e =
           sym (handed-parted d k (received d c buffer) _ (sizeOf d) (intervalsOf d) (same ∙ e) refl refl refl)
-          ∙ ap₂ (λ (n : ℕ) (x : List ℕ). stripped (sizeOf d) (n * intervalsOf d) x) l (sym (inserted e))
+          ∙ ap₂ (λ (n : ℕ) (x : List ℕ). stripped (sizeOf d) (n * intervalsOf d) x) long (sym (inserted e))
           ∙ blocks-read (sizeOf d) (intervalsOf d) (c .length) (marksOf d c) buffer (le-of-eq (enough e))
           ∙ take-all (c .length * (intervalsOf d * sizeOf d)) buffer (le-of-eq (sym (enough e)))
 
 -- two commands on the same blocks
 pub same-blocks : (d : Description) (c k : Command) (s : List ℕ) → k .address ≡ c .address → k .length ≡ c .length → blocksOf d k s ≡ blocksOf d c s
-unfolding blocksOf offsetOf spanOf
-same-blocks d c k s a l = ap₂ (λ (x n : ℕ). take (n * storedOf d) (drop ((x - d .first) * storedOf d) s)) a l
+unfolding blocksOf
+same-blocks d c k s a l = ap₂ (λ (x n : ℕ). blocksFrom d x n s) a l

@@ -1,13 +1,39 @@
 -- What a command does: its answer, and every lent byte afterwards.
 use Prim.Native.Nat.{ℕ}
 use mathlib.Core.List.{List}
-use Rattle.answer.specs.Outcome.{Outcome, outcome}
+use Rattle.words.specs.Parts.{put}
+use Rattle.answer.specs.Outcome.{Outcome, outcome, leaving}
 use Rattle.segment.specs.declared.Description.{Description}
+use Rattle.segment.specs.Places.{offsetOf}
+use Rattle.command.specs.declared.Command.{Command}
+use Rattle.command.specs.declared.Operation.{Operation}
+use Rattle.command.specs.declared.Operation.the-variants.{Read, Write, Verify}
+use Rattle.rules.specs.declared.Side.{Side}
+use Rattle.rules.specs.declared.Side.the-variants.{Sent, Stored}
 use Rattle.admission.specs.declared.Admitted.{Admitted}
 use Rattle.admission.specs.declared.Admitted.the-variants.{Refused, Go}
 use Rattle.admission.specs.Admission.{admitted}
-use Rattle.transfer.specs.Lent.{Lent, lengthsOf}
-use Rattle.transfer.specs.Transfer.{performed}
+use Rattle.transfer.specs.Transfer.{blocksOf, judged, handed, received}
+use Rattle.execute.specs.Lent.{Lent, lent, lengthsOf}
+
+-- the blocks of a side: what is sent stands in the buffer
+abbrev pub underCheck : Side → Description → Command → Lent → List ℕ
+underCheck Sent d c l = l .buffer
+underCheck Stored d c l = blocksOf d c (l .segment)
+
+-- "On a good WRITE the transfer's own blocks of the segment are overwritten and no other"
+unfoldable pub overwritten : Description → Command → Lent → List ℕ
+overwritten d c l = put (offsetOf d (c .address)) (received d c (l .buffer)) (l .segment)
+
+-- what a good command leaves: "A READ or VERIFY never changes the segment."
+abbrev pub movedFor : Operation → Description → Command → Lent → Lent
+movedFor Read d c l = lent (l .segment) (handed d c (blocksOf d c (l .segment)))
+movedFor Write d c l = lent (overwritten d c l) (l .buffer)
+movedFor Verify d c l = l
+
+-- a command that goes on: judged, and only then moved
+unfoldable pub performed : Description → Command → Lent → Outcome Lent
+performed d c l = leaving (judged d c (underCheck Sent d c l) (underCheck Stored d c l)) l (movedFor (c .operation) d c l)
 
 abbrev pub executedAs : Admitted → Description → Lent → Outcome Lent
 executedAs (Refused a) d l = outcome a l

@@ -1,3 +1,4 @@
+pub mod Lent
 pub mod Execute
 pub mod Checked
 pub mod Compared

@@ -2,9 +2,8 @@
 ghost use mathlib.Core.Path.{_≡_};
 ghost use Rattle.answer.specs.Outcome.{outcome};
 ghost use Rattle.admission.specs.Ready.{Ready};
-ghost use Rattle.transfer.specs.Lent.{lent, lengthsOf};
-ghost use Rattle.transfer.specs.Transfer.{performed};
-ghost use Rattle.execute.specs.Execute.{executed};
+ghost use Rattle.execute.specs.Lent.{lent, lengthsOf};
+ghost use Rattle.execute.specs.Execute.{performed, executed};
 use admission::Admitted;
 use answer::Answer;
 use command::Command;

@@ -35,7 +35,7 @@ pub struct Place {
 }
 
 // Whether the field of an interval has the escape.
-pub fn escaped(e: Escape, field: &[u8]) -> bool
+pub fn escapes(e: Escape, field: &[u8]) -> bool
     requires { ⌜ length (now field) ≡ 8 ⌝ }
     ensures { λ r. ⌜ r ≡ escapes e (now (field .entry)) ⌝ }
 {
@@ -52,7 +52,7 @@ pub fn escaped(e: Escape, field: &[u8]) -> bool
 }
 
 // Whether any of the first `count` intervals has the escape.
-pub fn any_escaped(e: Escape, size: usize, count: usize, s: &[u8]) -> bool
+pub fn any_escapes(e: Escape, size: usize, count: usize, s: &[u8]) -> bool
     requires { ⌜ count * (size + 8) ≡ length (now s) ⌝ }
     ensures { λ r. ⌜ r ≡ anyEscapes e size count (now (s .entry)) ⌝ }
 {
@@ -61,7 +61,7 @@ pub fn any_escaped(e: Escape, size: usize, count: usize, s: &[u8]) -> bool
     while 0 < left {
         let m = i + size;
         let end = m + 8;
-        if escaped(e, &s[m..end]) {
+        if escapes(e, &s[m..end]) {
             return true;
         }
         i = end;

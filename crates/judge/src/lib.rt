@@ -61,7 +61,7 @@ pub fn judge_block(t: &[u16; 256], r: Rules, p: Place, s: &[u8]) -> Answer
     ensures { λ a. ⌜ a ≡ judgeBlock r p (now (s .entry)) ⌝ }
 {
     let escape = r.escape;
-    if interval::any_escaped(escape, r.size, r.intervals, s) {
+    if interval::any_escapes(escape, r.size, r.intervals, s) {
         return Answer::Good;
     }
     judge_intervals(t, r, p, r.intervals, s)

@@ -4,7 +4,7 @@ use mathlib.Core.Bool.{Bool, cond}
 use mathlib.Core.List.{List, [], _∷_, _++_}
 use Rattle.answer.specs.declared.Answer.{Answer}
 use Rattle.answer.specs.declared.Answer.the-variants as answers
-use Rattle.answer.specs.declared.Reason.the-variants as reasons
+use Rattle.answer.specs.declared.Field.{Field}
 use Rattle.answer.specs.declared.Field.the-variants as fields
 use Rattle.interval.specs.declared.Rules.{Rules}
 use Rattle.interval.specs.declared.Place.{Place}
@@ -15,23 +15,17 @@ use Rattle.lines.specs.declared.Line.{Line}
 use Rattle.lines.specs.declared.State.{State}
 use Rattle.lines.specs.declared.State.the-variants.{Skipped, Guard, Ref, Ok}
 
+-- "else `guard`, else `ref` .., else `ok`": the word for a wrong field; the listing expects no application tag
+abbrev pub fieldWord : Field → State
+fieldWord fields.Guard = Guard
+fieldWord fields.Application = Ok
+fieldWord fields.Reference = Ref
+
 -- what judging says of an interval, as a word of the listing
 abbrev pub worded : Answer → State
 worded answers.Good = Ok
-worded (answers.Refused reasons.DescriptionBad) = Ok
-worded (answers.Refused reasons.SegmentLengthWrong) = Ok
-worded (answers.Refused reasons.CommandLengthWrong) = Ok
-worded (answers.Refused reasons.BufferLengthWrong) = Ok
-worded (answers.Refused reasons.OperationInvalid) = Ok
-worded (answers.Refused reasons.FieldInvalid) = Ok
-worded (answers.Refused reasons.AddressOutOfRange) = Ok
-worded (answers.Wrong fields.Guard a p) = Guard
-worded (answers.Wrong fields.Application a p) = Ok
-worded (answers.Wrong fields.Reference a p) = Ref
-worded (answers.Refused reasons.StripeShapeBad) = Ok
-worded (answers.Refused reasons.ParameterInvalid) = Ok
-worded (answers.Refused reasons.ListingRecordBad) = Ok
-worded (answers.Refused reasons.TransferTooLarge) = Ok
+worded (answers.Wrong f a p) = fieldWord f
+worded (answers.Refused r) = Ok
 
 -- "State is `skipped` under the escape, else `guard`, else `ref` .., else `ok`."
 unfoldable pub stateOf : Rules → Bool → Place → List ℕ → State

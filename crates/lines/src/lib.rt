@@ -4,10 +4,9 @@ ghost use Prim.Native.Nat.{_+_, _≤_, _^_};
 ghost use lib.ListN.{length};
 ghost use Rattle.guard.specs.Table.{Right};
 ghost use Rattle.text.specs.Laid.{Written};
-ghost use Rattle.lines.specs.Lines.{worded, stateOf, lineOf, stateText, lineText};
+ghost use Rattle.lines.specs.Lines.{fieldWord, worded, stateOf, lineOf, stateText, lineText};
 use answer::Answer;
 use answer::Field;
-use answer::Reason;
 use interval::Place;
 use interval::Rules;
 
@@ -29,26 +28,25 @@ pub struct Line {
     pub state: State,
 }
 
+// The word for a wrong field. The listing expects no application tag.
+fn field_word(f: Field) -> State
+    ensures { λ r. ⌜ r ≡ fieldWord f ⌝ }
+{
+    match f {
+        Field::Guard => State::Guard,
+        Field::Application => State::Ok,
+        Field::Reference => State::Ref,
+    }
+}
+
 // What judging says of an interval, as a word of the listing.
 fn worded(a: Answer) -> State
     ensures { λ r. ⌜ r ≡ worded a ⌝ }
 {
     match a {
         Answer::Good => State::Ok,
-        Answer::Refused(Reason::DescriptionBad) => State::Ok,
-        Answer::Refused(Reason::SegmentLengthWrong) => State::Ok,
-        Answer::Refused(Reason::CommandLengthWrong) => State::Ok,
-        Answer::Refused(Reason::BufferLengthWrong) => State::Ok,
-        Answer::Refused(Reason::OperationInvalid) => State::Ok,
-        Answer::Refused(Reason::FieldInvalid) => State::Ok,
-        Answer::Refused(Reason::AddressOutOfRange) => State::Ok,
-        Answer::Wrong(Field::Guard, _, _) => State::Guard,
-        Answer::Wrong(Field::Application, _, _) => State::Ok,
-        Answer::Wrong(Field::Reference, _, _) => State::Ref,
-        Answer::Refused(Reason::StripeShapeBad) => State::Ok,
-        Answer::Refused(Reason::ParameterInvalid) => State::Ok,
-        Answer::Refused(Reason::ListingRecordBad) => State::Ok,
-        Answer::Refused(Reason::TransferTooLarge) => State::Ok,
+        Answer::Wrong(f, _, _) => field_word(f),
+        Answer::Refused(_) => State::Ok,
     }
 }
 

@@ -21,6 +21,7 @@ use Rattle.judge.specs.FirstOf.{firstOf}
 use Rattle.judge.specs.Judge.{judgeIntervals, judgeBlock, judgeBlocks, nextInterval, nextBlock}
 use Rattle.answer.proofs.Ladder.{orElse-good}
 use Rattle.command.specs.Sixteen.{sixteen}
+use Rattle.rules.specs.declared.Side.the-variants.{Stored}
 use Rattle.rules.specs.Rules.{columnsOf, applicationKnown, rulesOf, startOf}
 use Rattle.text.proofs.Writing.{laid-length}
 use Rattle.text.proofs.Digits.{decimal-most}
@@ -43,7 +44,7 @@ totals-count d s = refl
 pub lines-all : (d : Description) (s : List ℕ) → Segment d → lengthOf d ≡ length s → (d .kind ≡ 0 → ⊥) → length (linesOf d s) ≡ d .count * intervalsOf d
 unfolding rulesOf
 lines-all d s g long n =
-    ap length (lines-are d s g long n) ∙ blocks-length (rulesOf d (readAll d)) (d .count) (startOf d (readAll d)) s
+    ap length (lines-are d s g long n) ∙ blocks-length (rulesOf Stored d (readAll d)) (d .count) (startOf d (readAll d)) s
 
 pub lines-plain : (d : Description) (s : List ℕ) → Segment d → lengthOf d ≡ length s → d .kind ≡ 0 → length (linesOf d s) ≡ 0
 lines-plain d s g long e = ap length (lines-none d s g long e)
@@ -103,15 +104,15 @@ module _ (r : Rules) (plain : r .application ≡ false) where
       both-ways (orElse-good (judgeBlock r p s) _) (rw count-append (none-of-two _ _)) (fault-block p s)
       (faults-blocks k (nextBlock (r .intervals) p) (drop (r .intervals * (r .size + 8)) s))
 
-pub read-plain : (d : Description) → rulesOf d (readAll d) .application ≡ false
+pub read-plain : (d : Description) → rulesOf Stored d (readAll d) .application ≡ false
 unfolding rulesOf sixteen columnsOf applicationKnown
 read-plain d = refl
 
 -- the whole segment, judged with what code 001 of a 16-byte READ checks, is good exactly where no line is faulty
 pub faults-are-judged : (d : Description) (s : List ℕ) → Segment d → lengthOf d ≡ length s → (d .kind ≡ 0 → ⊥)
-    → (judgeBlocks (rulesOf d (readAll d)) (d .count) (startOf d (readAll d)) s ≡ answers.Good) ↔ (countOf faulty (linesOf d s) ≡ 0)
+    → (judgeBlocks (rulesOf Stored d (readAll d)) (d .count) (startOf d (readAll d)) s ≡ answers.Good) ↔ (countOf faulty (linesOf d s) ≡ 0)
 faults-are-judged d s g long n =
-    rw (lines-are d s g long n) (faults-blocks (rulesOf d (readAll d)) (read-plain d) (d .count) (startOf d (readAll d)) s)
+    rw (lines-are d s g long n) (faults-blocks (rulesOf Stored d (readAll d)) (read-plain d) (d .count) (startOf d (readAll d)) s)
 
 -- ---- a listing has at most 524,288 bytes
 numbers-most : (l f k : ℕ) → length (numbersText l f k) ≤ 88

@@ -16,6 +16,7 @@ use Rattle.words.proofs.Parts.{drop-more}
 use Rattle.answer.specs.declared.Answer.the-variants as answers
 use Rattle.segment.specs.declared.Description.{Description}
 use Rattle.segment.specs.Segment.{Segment, intervalsOf, lengthOf}
+use Rattle.segment.specs.Places.{intervalAt}
 use Rattle.interval.specs.declared.Rules.{Rules}
 use Rattle.interval.specs.declared.Place.{Place}
 use Rattle.field.specs.Field.{storedReference}
@@ -23,8 +24,9 @@ use Rattle.interval.specs.Interval.{anyEscapes, judgeInterval}
 use Rattle.words.proofs.Turns.{after}
 use Rattle.judge.specs.Judge.{nextInterval, nextBlock}
 use Rattle.command.specs.Sixteen.{sixteen}
+use Rattle.rules.specs.declared.Side.the-variants.{Stored}
 use Rattle.rules.specs.Rules.{firstTag, rulesOf, startOf}
-use Rattle.rules.specs.Intervals.{intervalAt, placeAt, skipped, verdictAt}
+use Rattle.rules.specs.Intervals.{placeAt, skipped, verdictAt}
 use Rattle.rules.proofs.Places.{tag-small, place-is}
 use Rattle.lines.specs.declared.Line.{Line}
 use Rattle.lines.specs.declared.State.the-variants.{Skipped}
@@ -95,17 +97,17 @@ module _ (d : Description) (s : List ℕ) (g : Segment d) (j i : ℕ) (within : 
   reference-is true f e = ap (λ (t : ℕ). not (eqb f t)) (tag-is (eqb-true (d .kind) 1 e))
   reference-is false f e = refl
 
-  escape-is : skipped d (readAll d) s j ≡ escapedAt d s j
+  escape-is : skipped Stored d (readAll d) s j ≡ escapedAt d s j
   unfolding rulesOf sixteen
   escape-is = refl
 
   -- the state is what judging with the rules of `readAll` says
-  state-is : stateOf (rulesOf d (readAll d)) (skipped d (readAll d) s j) (placeAt d (readAll d) j i) (intervalAt d s j i) ≡ stateAt d s j i
+  state-is : stateOf (rulesOf Stored d (readAll d)) (skipped Stored d (readAll d) s j) (placeAt d (readAll d) j i) (intervalAt d s j i) ≡ stateAt d s j i
   state-is =
-      state-in-words d (skipped d (readAll d) s j) (placeAt d (readAll d) j i) (intervalAt d s j i)
+      state-in-words d (skipped Stored d (readAll d) s j) (placeAt d (readAll d) j i) (intervalAt d s j i)
       ∙ rw (reference-is (eqb (d .kind) 1) (storedReference (fieldAt d s j i)) refl, escape-is) refl
 
-  line-is : lineOf (rulesOf d (readAll d)) (skipped d (readAll d) s j) i (placeAt d (readAll d) j i) (intervalAt d s j i) ≡ lineAt d s j i
+  line-is : lineOf (rulesOf Stored d (readAll d)) (skipped Stored d (readAll d) s j) i (placeAt d (readAll d) j i) (intervalAt d s j i) ≡ lineAt d s j i
   unfolding lineOf lineAt rulesOf sixteen
   line-is = rw state-is refl
 
@@ -115,25 +117,25 @@ module _ (d : Description) (s : List ℕ) (g : Segment d) (j i : ℕ) (within : 
   unfolding rulesOf
   line-at long fields block x =
       ap (λ (ls : List Line). getD ls (j * intervalsOf d + i) x) (lines-are d s g long fields)
-      ∙ block-line (rulesOf d (readAll d)) x (d .count) j i (startOf d (readAll d)) s block within
-      ∙ ap (λ (p : Place). lineOf (rulesOf d (readAll d)) (skipped d (readAll d) s j) i p (intervalAt d s j i)) (place-is d (readAll d) (small d) j i)
+      ∙ block-line (rulesOf Stored d (readAll d)) x (d .count) j i (startOf d (readAll d)) s block within
+      ∙ ap (λ (p : Place). lineOf (rulesOf Stored d (readAll d)) (skipped Stored d (readAll d) s j) i p (intervalAt d s j i)) (place-is d (readAll d) (small d) j i)
       ∙ line-is
 
   -- its state is the word for what judging says of the interval
-  pub state-judged : lineAt d s j i .state ≡ cond (skipped d (readAll d) s j) Skipped (worded (verdictAt d (readAll d) s j i))
+  pub state-judged : lineAt d s j i .state ≡ cond (skipped Stored d (readAll d) s j) Skipped (worded (verdictAt Stored d (readAll d) s j i))
   unfolding lineAt stateOf
-  state-judged = sym state-is ∙ by (skipped d (readAll d) s j)
+  state-judged = sym state-is ∙ by (skipped Stored d (readAll d) s j)
     where
-      by : (b : Bool) → cond b Skipped (worded (judgeInterval (rulesOf d (readAll d)) (placeAt d (readAll d) j i) (intervalAt d s j i)))
-          ≡ cond b Skipped (worded (cond b answers.Good (judgeInterval (rulesOf d (readAll d)) (placeAt d (readAll d) j i) (intervalAt d s j i))))
+      by : (b : Bool) → cond b Skipped (worded (judgeInterval (rulesOf Stored d (readAll d)) (placeAt d (readAll d) j i) (intervalAt d s j i)))
+          ≡ cond b Skipped (worded (cond b answers.Good (judgeInterval (rulesOf Stored d (readAll d)) (placeAt d (readAll d) j i) (intervalAt d s j i))))
       by true = refl
       by false = refl
 
   -- a line is in state `guard` or `ref` exactly where judging that interval finds a fault
-  pub faulty-exactly : (verdictAt d (readAll d) s j i ≡ answers.Good) ↔ (faulty (lineAt d s j i .state) ≡ 0)
-  faulty-exactly = rw state-judged (by (skipped d (readAll d) s j))
+  pub faulty-exactly : (verdictAt Stored d (readAll d) s j i ≡ answers.Good) ↔ (faulty (lineAt d s j i .state) ≡ 0)
+  faulty-exactly = rw state-judged (by (skipped Stored d (readAll d) s j))
     where
-      by : (b : Bool) → (cond b answers.Good (judgeInterval (rulesOf d (readAll d)) (placeAt d (readAll d) j i) (intervalAt d s j i)) ≡ answers.Good)
-          ↔ (faulty (cond b Skipped (worded (cond b answers.Good (judgeInterval (rulesOf d (readAll d)) (placeAt d (readAll d) j i) (intervalAt d s j i))))) ≡ 0)
+      by : (b : Bool) → (cond b answers.Good (judgeInterval (rulesOf Stored d (readAll d)) (placeAt d (readAll d) j i) (intervalAt d s j i)) ≡ answers.Good)
+          ↔ (faulty (cond b Skipped (worded (cond b answers.Good (judgeInterval (rulesOf Stored d (readAll d)) (placeAt d (readAll d) j i) (intervalAt d s j i))))) ≡ 0)
       by true = (λ e. refl, λ e. refl)
-      by false = fault-interval (rulesOf d (readAll d)) (read-plain d) (placeAt d (readAll d) j i) (intervalAt d s j i)
+      by false = fault-interval (rulesOf Stored d (readAll d)) (read-plain d) (placeAt d (readAll d) j i) (intervalAt d s j i)

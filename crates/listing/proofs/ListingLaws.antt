@@ -20,6 +20,7 @@ use Rattle.interval.specs.declared.Rules.{Rules}
 use Rattle.interval.specs.declared.Place.{Place}
 use Rattle.judge.specs.Judge.{Run}
 use Rattle.command.specs.Sixteen.{sixteen}
+use Rattle.rules.specs.declared.Side.the-variants.{Stored}
 use Rattle.rules.specs.Rules.{rulesOf, startOf}
 use Rattle.text.specs.Text.{decimal}
 use Rattle.text.specs.Laid.{laid, Written}
@@ -43,7 +44,7 @@ refused-written a {n} e p q = written-then p (written-as (ap (λ (i : ℕ). deci
 
 -- ---- the lines of a segment
 module _ (d : Description) (s : List ℕ) (g : Segment d) (long : lengthOf d ≡ length s) where
-  pub segment-run : (d .kind ≡ 0 → ⊥) → Run (rulesOf d (readAll d)) (d .count) (startOf d (readAll d)) s
+  pub segment-run : (d .kind ≡ 0 → ⊥) → Run (rulesOf Stored d (readAll d)) (d .count) (startOf d (readAll d)) s
   unfolding rulesOf startOf sixteen lengthOf
   segment-run n =
       record {
@@ -55,7 +56,7 @@ module _ (d : Description) (s : List ℕ) (g : Segment d) (long : lengthOf d ≡
       }
 
   -- a line for nine bytes at the least
-  pub lines-few : (d .kind ≡ 0 → ⊥) → d .count * rulesOf d (readAll d) .intervals * 9 ≤ length s
+  pub lines-few : (d .kind ≡ 0 → ⊥) → d .count * rulesOf Stored d (readAll d) .intervals * 9 ≤ length s
   unfolding rulesOf lengthOf
   lines-few n =
       let nine : intervalsOf d * 9 ≤ storedOf d =
@@ -70,13 +71,13 @@ module _ (d : Description) (s : List ℕ) (g : Segment d) (long : lengthOf d ≡
   pub lines-plain : {t : Sheet} {out : List ℕ} → d .kind ≡ 0 → Printed (linesOf d s) t out t out
   lines-plain {t} {out} e = rw (lines-none e) (printed-none t out)
 
-  pub lines-are : (d .kind ≡ 0 → ⊥) → linesOf d s ≡ blockLines (rulesOf d (readAll d)) (d .count) (startOf d (readAll d)) s
+  pub lines-are : (d .kind ≡ 0 → ⊥) → linesOf d s ≡ blockLines (rulesOf Stored d (readAll d)) (d .count) (startOf d (readAll d)) s
   unfolding linesOf
   lines-are n = rw (ne-eqb (d .kind) 0 n)
 
-  module _ {c : Command} {r : Rules} {p : Place} (n : d .kind ≡ 0 → ⊥) (ec : c ≡ readAll d) (er : r ≡ rulesOf d c) (ep : p ≡ startOf d c) where
-    rules-are : r ≡ rulesOf d (readAll d)
-    rules-are = er ∙ ap (rulesOf d) ec
+  module _ {c : Command} {r : Rules} {p : Place} (n : d .kind ≡ 0 → ⊥) (ec : c ≡ readAll d) (er : r ≡ rulesOf Stored d c) (ep : p ≡ startOf d c) where
+    rules-are : r ≡ rulesOf Stored d (readAll d)
+    rules-are = er ∙ ap (rulesOf Stored d) ec
 
     start-is : p ≡ startOf d (readAll d)
     start-is = ep ∙ ap (startOf d) ec
@@ -97,7 +98,7 @@ module _ (d : Description) (s : List ℕ) (g : Segment d) (long : lengthOf d ≡
       by true e = rw (lines-none (eqb-true _ _ e)) zero-le
       by false e =
           let n = eqb-false _ _ e in
-          rw (lines-are n, blocks-length (rulesOf d (readAll d)) (d .count) (startOf d (readAll d)) s) (lines-few n)
+          rw (lines-are n, blocks-length (rulesOf Stored d (readAll d)) (d .count) (startOf d (readAll d)) s) (lines-few n)
 
   -- the place after the lines
   pub lines-end : {at : ℕ} {u : Sheet} {o left : List ℕ} → at ≤ 2 ^ 16 → length s ≤ 65536 → Printed (linesOf d s) (sheet at 0 0 0) o u left → u .at ≤ 2 ^ 31

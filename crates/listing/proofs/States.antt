@@ -20,6 +20,7 @@ use Rattle.words.proofs.Turns.{after}
 use Rattle.judge.specs.Judge.{nextBlock}
 use Rattle.judge.proofs.PlaceLaws.{place-after-block}
 use Rattle.command.specs.Sixteen.{sixteen}
+use Rattle.rules.specs.declared.Side.the-variants.{Stored}
 use Rattle.rules.specs.Rules.{columnsOf, applicationKnown, referenceKnown, firstTag, rulesOf, startOf}
 use Rattle.lines.specs.declared.State.{State}
 use Rattle.lines.specs.declared.State.the-variants.{Skipped, Guard, Ref, Ok}
@@ -43,7 +44,7 @@ known false false x = refl
 
 pub state-in-words : (d : Description) (skipped : Bool) (p : Place) (s : List ℕ)
     → let f = fieldOf (sizeOf d) s in
-    stateOf (rulesOf d (readAll d)) skipped p s
+    stateOf (rulesOf Stored d (readAll d)) skipped p s
     ≡ inWords skipped (not (eqb (storedGuard f) (guard (dataOf (sizeOf d) s)))) (eqb (d .kind) 1 && not (eqb (storedReference f) (p .tag)))
 unfolding stateOf judgeInterval judgePieces guardWrong applicationWrong referenceWrong rulesOf sixteen columnsOf applicationKnown referenceKnown
 state-in-words d skipped p s =

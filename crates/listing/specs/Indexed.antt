@@ -6,11 +6,11 @@ use lib.Dec.{eqb}
 use Rattle.guard.specs.Guard.{guard}
 use Rattle.segment.specs.declared.Description.{Description}
 use Rattle.segment.specs.Segment.{intervalsOf, sizeOf}
-use Rattle.command.specs.declared.Operation.the-variants.{Read}
+use Rattle.segment.specs.Places.{blockAt, intervalAt}
 use Rattle.field.specs.Field.{storedGuard, storedApplication, storedReference, dataOf, fieldOf}
 use Rattle.interval.specs.Interval.{anyEscapes}
+use Rattle.rules.specs.declared.Side.the-variants.{Stored}
 use Rattle.rules.specs.Rules.{escapeOf}
-use Rattle.rules.specs.Intervals.{blockAt, intervalAt}
 use Rattle.lines.specs.declared.Line.{Line}
 use Rattle.lines.specs.declared.State.{State}
 use Rattle.lines.specs.declared.State.the-variants.{Skipped, Guard, Ref, Ok}
@@ -24,7 +24,7 @@ fieldAt d s j i = fieldOf (sizeOf d) (intervalAt d s j i)
 
 -- "`skipped` under the escape": an interval of the block has it
 abbrev pub escapedAt : Description → List ℕ → ℕ → Bool
-escapedAt d s j = anyEscapes (escapeOf Read (d .kind)) (sizeOf d) (intervalsOf d) (blockAt d s j)
+escapedAt d s j = anyEscapes (escapeOf Stored (d .kind)) (sizeOf d) (intervalsOf d) (blockAt d s j)
 
 -- "else `guard`": the stored guard is not the guard of the data
 abbrev pub guardWrongAt : Description → List ℕ → ℕ → ℕ → Bool

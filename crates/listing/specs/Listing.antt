@@ -11,6 +11,7 @@ use Rattle.segment.specs.declared.Description.{Description}
 use Rattle.command.specs.declared.Command.{Command}
 use Rattle.command.specs.declared.Operation.the-variants.{Read}
 use Rattle.command.specs.Sixteen.{sixteen}
+use Rattle.rules.specs.declared.Side.the-variants.{Stored}
 use Rattle.rules.specs.Rules.{rulesOf, startOf}
 use Rattle.text.specs.Text.{decimal}
 use Rattle.text.specs.Laid.{laid}
@@ -25,7 +26,7 @@ readAll d = sixteen Read (d .first) (d .count)
 
 -- "Type 0 has no interval lines."
 unfoldable pub linesOf : Description → List ℕ → List Line
-linesOf d s = cond (eqb (d .kind) 0) [] (blockLines (rulesOf d (readAll d)) (d .count) (startOf d (readAll d)) s)
+linesOf d s = cond (eqb (d .kind) 0) [] (blockLines (rulesOf Stored d (readAll d)) (d .count) (startOf d (readAll d)) s)
 
 -- `lba interval guard app ref state`
 unfoldable pub headerText : List ℕ

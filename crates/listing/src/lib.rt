@@ -8,6 +8,7 @@ ghost use Rattle.sheet.specs.Sheet.{Printed, Room};
 ghost use Rattle.listing.specs.Listing.{linesOf, numbersText, listedText, refusedText, Listed};
 use answer::Answer;
 use command::Operation;
+use rules::Side;
 use segment::Description;
 use sheet::Sheet;
 
@@ -32,7 +33,7 @@ fn print_segment(d: Description, s: &[u8], out: &mut [u8], sheet: Sheet) -> Shee
     }
     let c = command::sixteen(Operation::Read, d.first, d.count);
     let t = guard::table();
-    let r = rules::rules(d, c);
+    let r = rules::rules(Side::Stored, d, c);
     let p = rules::start(d, c);
     sheet::print_blocks(&t, r, p, d.count as usize, s, out, sheet)
 }
@@ -80,5 +81,5 @@ pub fn list(input: &[u8], out: &mut [u8]) -> usize
     if !answer::good(a) {
         return print_refused(out, a);
     }
-    print_listed(records::described(input), &input[19..], out)
+    print_listed(records::described_by(input), &input[19..], out)
 }

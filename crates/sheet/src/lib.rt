@@ -77,7 +77,7 @@ fn print_block(t: &[u16; 256], r: Rules, p: Place, s: &[u8], out: &mut [u8], she
 {
     let size = r.size;
     let escape = r.escape;
-    let skipped = interval::any_escaped(escape, size, r.intervals, s);
+    let skipped = interval::any_escapes(escape, size, r.intervals, s);
     let mut left = r.intervals;
     let mut here = p;
     let mut number: u64 = 0;

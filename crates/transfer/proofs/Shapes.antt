@@ -21,8 +21,8 @@ use Rattle.judge.specs.FirstOf.{firstOf}
 use Rattle.judge.specs.Judge.{Run, judgeBlocks}
 use Rattle.rules.specs.declared.Side.{Side}
 use Rattle.rules.specs.Rules.{rulesOf, startOf}
-use Rattle.rules.specs.Sides.{checkedOn}
-use Rattle.rules.proofs.Laws.{checks-all}
+use Rattle.rules.specs.Sides.{checksOn, checkedOn}
+use Rattle.rules.proofs.Laws.{checks-all, checked-all}
 use Rattle.rules.specs.Inserted.{marksOf}
 use Rattle.insertion.specs.declared.Marks.{Marks}
 use Rattle.blocks.specs.Blocks.{stripped}
@@ -81,6 +81,10 @@ module _ (side : Side) (d : Description) (c : Command) (s : List ℕ) where
   pub judged-none : checkedOn side d c ≡ 0 → judgedOn side d c s ≡ answers.Good
   unfolding judgedOn judgeBlocks firstOf
   judged-none e = rw e
+
+  pub judged-all : (d .kind ≡ 0 → ⊥) → checksOn side (c .operation) c ≡ true → judgedOn side d c s ≡ judgeBlocks (rulesOf side d c) (c .length) (startOf d c) s
+  unfolding judgedOn
+  judged-all k e = rw (checked-all side d c k e)
 
   pub run : Shaped d c → Sided side d c (length s) → (checkedOn side d c ≡ 0 → ⊥) → Run (rulesOf side d c) (checkedOn side d c) (startOf d c) s
   unfolding rulesOf startOf

@@ -4,9 +4,8 @@ ghost use Prim.Native.Nat.{_+_, _≤_};
 ghost use lib.ListN.{length};
 ghost use Rattle.words.specs.Parts.{put};
 ghost use Rattle.guard.specs.Table.{Right};
-ghost use Rattle.answer.specs.Answer.{orElse};
 ghost use Rattle.segment.specs.Places.{spanOf};
-ghost use Rattle.transfer.specs.Transfer.{whole, judgedOn, handed, received};
+ghost use Rattle.transfer.specs.Transfer.{whole, judgedOn, judged, handed, received};
 ghost use Rattle.transfer.specs.Inner.{Shaped, Sided, Fitted};
 use answer::Answer;
 use command::Command;
@@ -47,7 +46,7 @@ pub fn judge(t: &[u16; 256], d: Description, c: Command, sent: &[u8], stored: &[
     requires { ⌜ Right (now t) ⌝ }
     requires { ⌜ Shaped d c ⌝ }
     requires { ⌜ (Sided Side.Sent d c (length (now sent))) × (Sided Side.Stored d c (length (now stored))) ⌝ }
-    ensures { λ a. ⌜ a ≡ orElse (judgedOn Side.Sent d c (now (sent .entry))) (judgedOn Side.Stored d c (now (stored .entry))) ⌝ }
+    ensures { λ a. ⌜ a ≡ judged d c (now (sent .entry)) (now (stored .entry)) ⌝ }
 {
     let a = judge_on(t, Side::Sent, d, c, sent);
     if !answer::good(a) {

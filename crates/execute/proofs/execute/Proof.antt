@@ -8,13 +8,13 @@ use Rattle.execute.proofs.execute.Statement.{statement}
 use Rattle.execute.proofs.execute.Tie as tie
 
 perform-requires : tie.Need-perform-requires
-perform-requires c κs = admitted-ready _ _ _ _ _ (sym (c .before .before .before .before .before .admit .ensures) ∙ c .before .before .before .decided2 .given .1)
+perform-requires c κs = admitted-ready _ _ _ _ (sym (c .before .before .before .before .before .admit .ensures) ∙ c .before .before .before .decided2 .given .1)
 
 returns : tie.Need-returns
-returns c = refused-outcome _ _ _ _ _ (sym (c .before .before .before .admit .ensures) ∙ c .before .decided .given .1)
+returns c = refused-outcome _ _ _ _ (sym (c .before .before .before .admit .ensures) ∙ c .before .decided .given .1)
 
 returns-2 : tie.Need-returns-2
-returns-2 c = went-outcome _ _ _ _ _ _ _ _ (sym (c .before .before .before .before .before .before .before .before .before .before .admit .ensures) ∙ c .before .before .before .before .before .before .before .before .decided2 .given .1) (c .before .before .before .before .perform .ensures)
+returns-2 c = went-outcome _ _ _ _ _ _ (sym (c .before .before .before .before .before .before .before .before .before .before .admit .ensures) ∙ c .before .before .before .before .before .before .before .before .decided2 .given .1) (c .before .before .before .before .perform .ensures)
 
 pub execute-spec : {M : Type 1} → statement M
 execute-spec =

@@ -7,15 +7,15 @@ use borrow.Author.Needs.{needs}
 use Rattle.judge.proofs.judge_block.Statement.{statement}
 use Rattle.judge.proofs.judge_block.Tie as tie
 
-any-escaped-requires : tie.Need-any-escaped-requires
-any-escaped-requires c κs = sym (one-mul _) ∙ c .before .pre .1 .whole
+any-escapes-requires : tie.Need-any-escapes-requires
+any-escapes-requires c κs = sym (one-mul _) ∙ c .before .pre .1 .whole
 
 returns : tie.Need-returns
-returns c = sym (block-escaped _ _ _ (sym (c .before .any-escaped .ensures) ∙ c .if1 .taken))
+returns c = sym (block-escaped _ _ _ (sym (c .before .any-escapes .ensures) ∙ c .if1 .taken))
 
 returns-2 : tie.Need-returns-2
-returns-2 c = c .judge-intervals .ensures ∙ sym (block-judged _ _ _ (sym (c .before .before .any-escaped .ensures) ∙ c .before .if1 .left))
+returns-2 c = c .judge-intervals .ensures ∙ sym (block-judged _ _ _ (sym (c .before .before .any-escapes .ensures) ∙ c .before .if1 .left))
 
 pub judge-block-spec : {M : Type 1} → statement M
 judge-block-spec =
-    tie.close (tie.spec any-escaped-requires returns (λ c κs. search needs) returns-2)
+    tie.close (tie.spec any-escapes-requires returns (λ c κs. search needs) returns-2)

@@ -86,11 +86,11 @@ Inv-loop t r s out₀ size skipped left₀ here₀ number₀ now₀ i₀ out lef
 abbrev μ-loop : tie.MeasureT-loop
 μ-loop t r s out₀ size skipped left₀ here₀ number₀ now₀ i₀ out left here number now i = left
 
-any-escaped-requires : tie.Need-any-escaped-requires Inv-loop μ-loop
-any-escaped-requires c κs = sym (one-mul _) ∙ c .before .before .pre .1 .0 .whole
+any-escapes-requires : tie.Need-any-escapes-requires Inv-loop μ-loop
+any-escapes-requires c κs = sym (one-mul _) ∙ c .before .before .pre .1 .0 .whole
 
 loop-holds : tie.Need-loop-holds Inv-loop μ-loop
-loop-holds c = begins (c .before .before .before .pre .1 .0) (c .before .before .before .pre .1 .1) (c .any-escaped .ensures)
+loop-holds c = begins (c .before .before .before .pre .1 .0) (c .before .before .before .pre .1 .1) (c .any-escapes .ensures)
 
 add-end-2 : tie.Need-add-end-2 Inv-loop μ-loop
 add-end-2 c = omega (arith, within (c .before .loop .inv) (c .loop-test .taken), c .before .before .before .before .before .good)
@@ -122,7 +122,7 @@ print-block-spec =
     (tie.spec
     Inv-loop
     μ-loop
-    any-escaped-requires
+    any-escapes-requires
     loop-holds
     (λ c. search needs)
     add-end-2

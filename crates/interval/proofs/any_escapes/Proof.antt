@@ -1,4 +1,4 @@
--- `interval::any_escaped`: the intervals that are left have an escape exactly when all of them have.
+-- `interval::any_escapes`: the intervals that are left have an escape exactly when all of them have.
 -- Assumes nothing.
 use mathlib.Core.Path.{_≡_, refl, ap, _∙_}
 use mathlib.Core.Bool.{Bool, true, false}
@@ -12,8 +12,8 @@ use Rattle.interval.specs.declared.Escape.{Escape}
 use Rattle.interval.specs.Interval.{escapes, anyEscapes}
 use Rattle.interval.proofs.IntervalLaws.{any-next, any-stop, any-end}
 use borrow.Author.Needs.{needs}
-use Rattle.interval.proofs.any_escaped.Statement.{statement}
-use Rattle.interval.proofs.any_escaped.Tie as tie
+use Rattle.interval.proofs.any_escapes.Statement.{statement}
+use Rattle.interval.proofs.any_escapes.Tie as tie
 
 record Looking (e : Escape) (size count : ℕ) (s : List ℕ) (left i : ℕ) : Type 0 where
   from : i + left * (size + 8) ≡ length s
@@ -49,8 +49,8 @@ add-m c = omega (arith, within (c .before .loop .inv) (c .loop-test .taken), c .
 add-end : tie.Need-add-end Inv-loop μ-loop
 add-end c = omega (arith, within (c .before .loop .inv) (c .loop-test .taken), c .before .before .before .good)
 
-part-escaped-end : tie.Need-part-escaped-end Inv-loop μ-loop
-part-escaped-end c = within (c .before .loop .inv) (c .loop-test .taken)
+part-escapes-end : tie.Need-part-escapes-end Inv-loop μ-loop
+part-escapes-end c = within (c .before .loop .inv) (c .loop-test .taken)
 
 returns : tie.Need-returns Inv-loop μ-loop
 returns c = search stop
@@ -61,8 +61,8 @@ loop-again c = search turn
 returns-2 : tie.Need-returns-2 Inv-loop μ-loop
 returns-2 c = any-end _ _ (c .before .loop .left) _ _ (c .loop-test .left) (c .before .loop .inv .same)
 
-pub any-escaped-spec : {M : Type 1} → statement M
-any-escaped-spec =
+pub any-escapes-spec : {M : Type 1} → statement M
+any-escapes-spec =
     tie.close
     (tie.spec
     Inv-loop
@@ -71,7 +71,7 @@ any-escaped-spec =
     add-m
     add-end
     (λ c. search needs) (λ c. search needs)
-    part-escaped-end
+    part-escapes-end
     (λ c κs. search needs)
     returns
     (λ c. search needs) (λ c. search needs)

@@ -1,4 +1,4 @@
--- `interval::escaped`: by cases on the escape; where the application tag is another than FFFFh, the reference tag is not asked for.
+-- `interval::escapes`: by cases on the escape; where the application tag is another than FFFFh, the reference tag is not asked for.
 -- Assumes nothing.
 use mathlib.Core.Path.{_≡_, refl}
 use mathlib.Core.Bool.{false}
@@ -11,8 +11,8 @@ use Rattle.field.specs.Field.{storedApplication, storedReference}
 use Rattle.interval.specs.declared.Escape.{Escape}
 use Rattle.interval.specs.declared.Escape.the-variants.{Never, Tag, Both}
 use Rattle.interval.specs.Interval.{escapes}
-use Rattle.interval.proofs.escaped.Statement.{statement}
-use Rattle.interval.proofs.escaped.Tie as tie
+use Rattle.interval.proofs.escapes.Statement.{statement}
+use Rattle.interval.proofs.escapes.Tie as tie
 
 module _ (e : Escape) (f : List ℕ) where
   none : e ≡ Never → false ≡ escapes e f
@@ -44,8 +44,8 @@ returns-3 c = search tagged
 returns-4 : tie.Need-returns-4
 returns-4 c = search both
 
-pub escaped-spec : {M : Type 1} → statement M
-escaped-spec =
+pub escapes-spec : {M : Type 1} → statement M
+escapes-spec =
     tie.close
     (tie.spec
     (λ c. search needs) (λ c. search needs) (λ c κs. search needs) (λ c. search needs)
