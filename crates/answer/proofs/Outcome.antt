@@ -1,18 +1,14 @@
 -- Outcomes: what a refusal leaves, and what a good answer leaves.
 -- Assumes nothing.
 use mathlib.Core.Path.{_≡_, refl, sym, ap, _∙_}
-use mathlib.Core.Bool.{Bool, true, false, not, cond, true≢false}
+use mathlib.Core.Bool.{Bool, true, false, not, cond}
 use borrow.Author.Tests.{not-true, not-false}
 use Rattle.answer.specs.Answer.{isGood}
 use Rattle.answer.specs.Outcome.{Outcome, outcome, leaving}
 use Rattle.answer.specs.declared.Answer.{Answer}
-use Rattle.answer.specs.declared.Answer.the-variants.{Good, Wrong, Refused}
+use Rattle.answer.specs.declared.Answer.the-variants.{Good, Refused}
 use Rattle.answer.specs.declared.Reason.{Reason}
-
-pub is-good : (a : Answer) → isGood a ≡ true → a ≡ Good
-is-good Good e = refl
-is-good (Wrong f a p) e = absurd (true≢false (sym e))
-is-good (Refused r) e = absurd (true≢false (sym e))
+use Rattle.answer.proofs.Ladder.{good-is}
 
 module _ {L : Type 0} (rule : Answer) (old new : L) where
   pub refuses : {r : Reason} → rule ≡ Refused r → outcome (Refused r) old ≡ leaving rule old new
@@ -25,7 +21,7 @@ module _ {L : Type 0} (rule : Answer) (old new : L) where
   keeps {a} {l} e n = by (isGood rule) refl
     where
       by : (g : Bool) → isGood rule ≡ g → l ≡ old
-      by true w = absurd (n (ap (λ (o : Outcome L). o .answer) e ∙ is-good rule w))
+      by true w = absurd (n (ap (λ (o : Outcome L). o .answer) e ∙ good-is rule w))
       by false w = ap (λ (o : Outcome L). o .left) e ∙ ap (λ (g : Bool). cond g new old) w
 
   -- `a` is what the rule's function answered, `g` whether that is good
@@ -34,4 +30,4 @@ module _ {L : Type 0} (rule : Answer) (old new : L) where
     hands-on n = rw (← e, sym t ∙ not-true g n)
 
     pub leaves-new : {l : L} → not g ≡ false → l ≡ new → outcome Good l ≡ leaving rule old new
-    leaves-new n m = leaves (sym e ∙ is-good a (sym t ∙ not-false g n)) m
+    leaves-new n m = leaves (sym e ∙ good-is a (sym t ∙ not-false g n)) m
