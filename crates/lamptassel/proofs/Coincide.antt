@@ -1,8 +1,9 @@
 -- "any two permitted answers coincide": of each public function, over its contract as it stands. Whatever the arguments a are, two
 -- answers x and y that the contract permits are one, and so is each byte lent to be written, as the calls leave it in s and in t.
 -- Assumes nothing.
-use mathlib.Core.Path.{_≡_, sym, _∙_}
+use mathlib.Core.Path.{_≡_, sym, ap, _∙_}
 use denote.Ref.{now}
+use Rattle.execute.specs.Lent.{Lent}
 use Rattle.lamptassel.proofs.lamptassel_execute.Reads as execute-reads
 use Rattle.lamptassel.proofs.lamptassel_format_choice.Reads as format-choice-reads
 use Rattle.lamptassel.proofs.lamptassel_fill.Reads as fill-reads
@@ -16,7 +17,7 @@ use Rattle.lamptassel.proofs.lamptassel_guard_by_division.Reads as guar
 use Rattle.lamptassel.proofs.lamptassel_guards.Reads as guards-reads
 
 pub execute : (κs : _) (a : _) (x y : _) (s t : _) → execute-reads.Post κs a x s → execute-reads.Post κs a y t → (x ≡ y) × (now (s .1 .1 .1 .1 .1 .1 .0) ≡ now (t .1 .1 .1 .1 .1 .1 .0)) × (now (s .1 .1 .1 .1 .1 .1 .1 .1 .0) ≡ now (t .1 .1 .1 .1 .1 .1 .1 .1 .0)) × (now (s .1 .1 .1 .1 .1 .1 .1 .1 .1 .0) ≡ now (t .1 .1 .1 .1 .1 .1 .1 .1 .1 .0)) × (now (s .1 .1 .1 .1 .1 .1 .1 .1 .1 .1 .0) ≡ now (t .1 .1 .1 .1 .1 .1 .1 .1 .1 .1 .0))
-execute κs a x y s t p q = (p .answer ∙ sym (q .answer), p .segment ∙ sym (q .segment), p .buffer ∙ sym (q .buffer), p .address ∙ sym (q .address), p .place ∙ sym (q .place))
+execute κs a x y s t p q = (p .answer ∙ sym (q .answer), ap (λ (l : Lent). l .segment) (p .left ∙ sym (q .left)), ap (λ (l : Lent). l .buffer) (p .left ∙ sym (q .left)), p .address ∙ sym (q .address), p .place ∙ sym (q .place))
 
 pub format-choice : (κs : _) (a : _) (x y : _) (s t : _) → format-choice-reads.Post κs a x s → format-choice-reads.Post κs a y t → (x ≡ y) × (now (s .1 .1 .1 .1 .0) ≡ now (t .1 .1 .1 .1 .0))
 format-choice κs a x y s t p q = (p .answer ∙ sym (q .answer), p .kind ∙ sym (q .kind))

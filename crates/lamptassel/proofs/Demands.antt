@@ -10,6 +10,7 @@ use Rattle.answer.specs.Outcome.{leaving}
 use Rattle.answer.specs.declared.Answer.{Answer}
 use Rattle.answer.proofs.Demands.{good-is-zero, refused-leaves}
 use Rattle.segment.specs.declared.Description.{Description}
+use Rattle.execute.specs.Lent.{Lent}
 use Rattle.execute.specs.Execute.{executed}
 use Rattle.execute.proofs.Demands.{refused-leaves-all}
 use Rattle.filling.specs.Fresh.{filled}
@@ -23,11 +24,10 @@ refused : (a : Answer) (r : ℕ) → r ≡ numberOf a → (r ≡ 0 → ⊥) → 
 refused a r e n = good-is-zero a ∙ rw (← e) (ne-eqb r 0 n)
 
 -- a refused READ leaves its buffer, a refused WRITE its segment
-pub execute-refused-leaves : (d : Description) (segment command buffer : List ℕ) (r a p : ℕ) (s b : List ℕ)
-    → Executed (executed d segment command buffer) r a p s b → (r ≡ 0 → ⊥) → (s ≡ segment) × (b ≡ buffer)
-execute-refused-leaves d segment command buffer r a p s b x n =
-    let kept = refused-leaves-all d segment command buffer (refused (executed d segment command buffer .answer) r (x .answer) n) in
-    (x .segment ∙ kept .0, x .buffer ∙ kept .1)
+pub execute-refused-leaves : (d : Description) (command : List ℕ) (l : Lent) (r a p : ℕ) (left : Lent)
+    → Executed (executed d command l) r a p left → (r ≡ 0 → ⊥) → left ≡ l
+execute-refused-leaves d command l r a p left x n =
+    x .left ∙ refused-leaves-all d command l (refused (executed d command l .answer) r (x .answer) n)
 
 leaves : (a : Answer) (old new : List ℕ) (r : ℕ) (l : List ℕ) → Answered (leaving a old new) r l → (r ≡ 0 → ⊥) → l ≡ old
 leaves a old new r l x n = x .left ∙ refused-leaves a old new (refused a r (x .answer) n)

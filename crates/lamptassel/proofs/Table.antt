@@ -8,7 +8,7 @@ use Rattle.answer.specs.Answer.{numberOf, inTable}
 use Rattle.answer.specs.Outcome.{Outcome}
 use Rattle.answer.specs.declared.Answer.{Answer}
 use Rattle.answer.proofs.Demands.{in-table}
-use Rattle.execute.specs.Execute.{Outcome}
+use Rattle.execute.specs.Lent.{Lent}
 use Rattle.format.specs.declared.Choice.{Choice}
 use Rattle.lamptassel.specs.Answers.{Executed, Chosen, Answered}
 
@@ -16,8 +16,8 @@ told : (a : Answer) (r : ℕ) → r ≡ numberOf a → inTable r ≡ true
 told a r e = ap inTable e ∙ in-table a
 
 -- `lamptassel_execute`
-pub execute-in-table : (o : Outcome) (r a p : ℕ) (s b : List ℕ) → Executed o r a p s b → inTable r ≡ true
-execute-in-table o r a p s b x = told (o .answer) r (x .answer)
+pub execute-in-table : (o : Outcome Lent) (r a p : ℕ) (l : Lent) → Executed o r a p l → inTable r ≡ true
+execute-in-table o r a p l x = told (o .answer) r (x .answer)
 
 -- `lamptassel_format_choice`
 pub format-choice-in-table : (c : Choice) (r t : ℕ) → Chosen c r t → inTable r ≡ true
