@@ -19,7 +19,7 @@ fn admit_command(d: Description, c: Command, lengths: Lengths) -> Admitted
     ensures { λ r. ⌜ r ≡ admitCommand d c lengths ⌝ }
 {
     let a = refusal::refusal(d, c, lengths);
-    if answer::good(a) {
+    if answer::is_good(a) {
         return Admitted::Go(c);
     }
     Admitted::Refused(a)
@@ -30,7 +30,7 @@ pub fn admit(d: Description, lengths: Lengths, command: &[u8]) -> Admitted
     ensures { λ r. ⌜ r ≡ admitted d lengths (now (command .entry)) ⌝ }
 {
     let a = segment::segment_rules(d, lengths.segment);
-    if !answer::good(a) {
+    if !answer::is_good(a) {
         return Admitted::Refused(a);
     }
     let decoded = command::decode(command);

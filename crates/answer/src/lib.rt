@@ -92,7 +92,7 @@ pub fn place(a: Answer) -> u64
     }
 }
 
-pub fn good(a: Answer) -> bool
+pub fn is_good(a: Answer) -> bool
     ensures { λ r. ⌜ r ≡ isGood a ⌝ }
 {
     match a {

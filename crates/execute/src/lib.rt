@@ -20,7 +20,7 @@ fn perform(d: Description, c: Command, segment: &mut [u8], buffer: &mut [u8]) ->
     let at = segment::offset(d, c.address);
     let end = at + segment::span(d, c.length);
     let a = transfer::judge(&t, d, c, buffer, &segment[at..end]);
-    if !answer::good(a) {
+    if !answer::is_good(a) {
         return a;
     }
     let o = c.operation;

@@ -36,7 +36,7 @@ pub fn fill(d: Description, segment: &mut [u8]) -> Answer
     ensures { λ r. ⌜ outcome r (now (segment .exit)) ≡ filled d (now (segment .entry)) ⌝ }
 {
     let a = segment::segment_rules(d, segment.len());
-    if !answer::good(a) {
+    if !answer::is_good(a) {
         return a;
     }
     if d.kind == 0 {

@@ -2,7 +2,7 @@
 -- answers x and y that the contract permits are one, and so is each byte lent to be written, as the calls leave it in s and in t.
 -- Assumes nothing.
 use mathlib.Core.Path.{_≡_, sym, _∙_}
-use Rattle.format.proofs.choose.Reads as choose-reads
+use Rattle.format.proofs.choice_of.Reads as choice-of-reads
 
-pub choose : (κs : _) (a : _) (x y : _) (s t : _) → choose-reads.Post κs a x s → choose-reads.Post κs a y t → x ≡ y
-choose κs a x y s t p q = p ∙ sym q
+pub choice-of : (κs : _) (a : _) (x y : _) (s t : _) → choice-of-reads.Post κs a x s → choice-of-reads.Post κs a y t → x ≡ y
+choice-of κs a x y s t p q = p ∙ sym q

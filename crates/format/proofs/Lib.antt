@@ -1,3 +1,3 @@
-pub mod Sentences
+pub mod Agreement
 pub mod Demands
 pub mod Coincide

@@ -67,18 +67,18 @@ table9 =
     ∷ row (only (0b100 ∷ 0b101 ∷ 0b110 ∷ 0b111 ∷ [])) (is 1) (only (0b10 ∷ 0b11 ∷ [])) any (illegal FieldInvalid)
     ∷ []
 
--- the first row that all four meet; numbers within the ranges meet one
+-- the first row that all four meet; numbers within the inRange meet one
 abbrev pub look : List Row → ℕ → ℕ → ℕ → ℕ → Choice
 look [] s p f u = illegal FieldInvalid
 look (r ∷ rs) s p f u =
     cond (meets (r .spt) s && (meets (r .protect) p && (meets (r .fmtpinfo) f && meets (r .usage) u))) (r .gives) (look rs s p f u)
 
 -- "(0-7, 0-1, 0-3, 0-7; outside these 6)"
-abbrev pub ranges : ℕ → ℕ → ℕ → ℕ → Bool
-ranges s p f u = leb s 7 && (leb p 1 && (leb f 3 && leb u 7))
+abbrev pub inRange : ℕ → ℕ → ℕ → ℕ → Bool
+inRange s p f u = leb s 7 && (leb p 1 && (leb f 3 && leb u 7))
 
 unfoldable pub choiceOf : ℕ → ℕ → ℕ → ℕ → Choice
-choiceOf s p f u = cond (ranges s p f u) (look table9 s p f u) (illegal FieldInvalid)
+choiceOf s p f u = cond (inRange s p f u) (look table9 s p f u) (illegal FieldInvalid)
 
 -- The paper's own sentences, which `proofs/Demands.antt` shows to choose the same.
 -- "type .. for usage .., else 12"

@@ -1,6 +1,6 @@
 // The format choice.
 ghost use mathlib.Core.Path.{_≡_};
-ghost use Rattle.format.specs.Choice.{choiceOf, ranges, sentences, supports, byUsage, illegal};
+ghost use Rattle.format.specs.Choice.{choiceOf, inRange, sentences, supports, byUsage, illegal};
 use answer::Answer;
 use answer::Reason;
 
@@ -32,7 +32,7 @@ fn by_usage(usage: u64, wanted: u64, kind: u64) -> Choice
     illegal(Reason::ParameterInvalid)
 }
 
-fn supported(protect: u64, spt: u64) -> bool
+fn supports(protect: u64, spt: u64) -> bool
     ensures { λ r. ⌜ r ≡ supports protect spt ⌝ }
 {
     if protect == 0 {
@@ -51,7 +51,7 @@ fn supported(protect: u64, spt: u64) -> bool
 }
 
 fn in_range(spt: u64, protect: u64, fmtpinfo: u64, usage: u64) -> bool
-    ensures { λ r. ⌜ r ≡ ranges spt protect fmtpinfo usage ⌝ }
+    ensures { λ r. ⌜ r ≡ inRange spt protect fmtpinfo usage ⌝ }
 {
     if 7 < spt {
         return false;
@@ -68,7 +68,7 @@ fn in_range(spt: u64, protect: u64, fmtpinfo: u64, usage: u64) -> bool
     true
 }
 
-fn by_sentences(spt: u64, protect: u64, fmtpinfo: u64, usage: u64) -> Choice
+fn sentences(spt: u64, protect: u64, fmtpinfo: u64, usage: u64) -> Choice
     ensures { λ r. ⌜ r ≡ sentences spt protect fmtpinfo usage ⌝ }
 {
     if fmtpinfo == 0 {
@@ -77,7 +77,7 @@ fn by_sentences(spt: u64, protect: u64, fmtpinfo: u64, usage: u64) -> Choice
     if fmtpinfo == 1 {
         return illegal(Reason::FieldInvalid);
     }
-    if !supported(protect, spt) {
+    if !supports(protect, spt) {
         return illegal(Reason::FieldInvalid);
     }
     if fmtpinfo == 2 {
@@ -93,11 +93,11 @@ fn by_sentences(spt: u64, protect: u64, fmtpinfo: u64, usage: u64) -> Choice
 }
 
 // The type that a FORMAT UNIT command asks for. Any numbers.
-pub fn choose(spt: u64, protect: u64, fmtpinfo: u64, usage: u64) -> Choice
+pub fn choice_of(spt: u64, protect: u64, fmtpinfo: u64, usage: u64) -> Choice
     ensures { λ r. ⌜ r ≡ choiceOf spt protect fmtpinfo usage ⌝ }
 {
     if in_range(spt, protect, fmtpinfo, usage) {
-        return by_sentences(spt, protect, fmtpinfo, usage);
+        return sentences(spt, protect, fmtpinfo, usage);
     }
     illegal(Reason::FieldInvalid)
 }

@@ -44,7 +44,7 @@ pub fn judge_intervals(t: &[u16; 256], r: Rules, p: Place, count: usize, s: &[u8
         let m = i + size;
         let end = m + 8;
         let a = interval::judge_pieces(t, r, here, &s[i..m], &s[m..end]);
-        if !answer::good(a) {
+        if !answer::is_good(a) {
             return a;
         }
         here = next_interval(here);
@@ -81,7 +81,7 @@ pub fn judge_blocks(t: &[u16; 256], r: Rules, p: Place, count: usize, s: &[u8]) 
     while 0 < left {
         let end = i + block;
         let a = judge_block(t, r, here, &s[i..end]);
-        if !answer::good(a) {
+        if !answer::is_good(a) {
             return a;
         }
         here = next_block(n, here);

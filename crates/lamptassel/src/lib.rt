@@ -61,7 +61,7 @@ pub extern "C" fn lamptassel_format_choice(
 ) -> u64
     ensures { λ r. ⌜ Chosen (choiceOf spt protect fmtpinfo usage) r (now (kind .exit)) ⌝ }
 {
-    let c = format::choose(spt, protect, fmtpinfo, usage);
+    let c = format::choice_of(spt, protect, fmtpinfo, usage);
     let a = c.answer;
     *kind = c.kind;
     answer::number(a)

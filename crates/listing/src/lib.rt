@@ -78,7 +78,7 @@ pub fn list(input: &[u8], out: &mut [u8]) -> usize
     ensures { λ r. ⌜ Listed (now (input .entry)) (now (out .entry)) r (now (out .exit)) ⌝ }
 {
     let a = records::record_answer(input);
-    if !answer::good(a) {
+    if !answer::is_good(a) {
         return print_refused(out, a);
     }
     print_listed(records::described_by(input), &input[19..], out)

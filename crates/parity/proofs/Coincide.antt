@@ -5,7 +5,7 @@ use mathlib.Core.Path.{_≡_, sym, _∙_}
 use denote.Ref.{now}
 use Rattle.parity.proofs.xor_two.Reads as xor-two-reads
 use Rattle.parity.proofs.join.Reads as join-reads
-use Rattle.parity.proofs.restore.Reads as restore-reads
+use Rattle.parity.proofs.rebuild.Reads as rebuild-reads
 
 pub xor-two : (κs : _) (a : _) (x y : _) (s t : _) → xor-two-reads.Post κs a x s → xor-two-reads.Post κs a y t → now (s .0) ≡ now (t .0)
 xor-two κs a x y s t p q = p ∙ sym q
@@ -13,5 +13,5 @@ xor-two κs a x y s t p q = p ∙ sym q
 pub join : (κs : _) (a : _) (x y : _) (s t : _) → join-reads.Post κs a x s → join-reads.Post κs a y t → now (s .0) ≡ now (t .0)
 join κs a x y s t p q = p ∙ sym q
 
-pub restore : (κs : _) (a : _) (x y : _) (s t : _) → restore-reads.Post κs a x s → restore-reads.Post κs a y t → now (s .0) ≡ now (t .0)
-restore κs a x y s t p q = p ∙ sym q
+pub rebuild : (κs : _) (a : _) (x y : _) (s t : _) → rebuild-reads.Post κs a x s → rebuild-reads.Post κs a y t → now (s .0) ≡ now (t .0)
+rebuild κs a x y s t p q = p ∙ sym q

@@ -87,7 +87,7 @@ pub fn join(out: &mut [u8], before: &[u8], m: usize, after: &[u8], n: usize)
 }
 
 // Makes `out` part `lost` of `count` parts and their parity, each as long as `out`: the exclusive or of the parts before it and those after it.
-pub fn restore(out: &mut [u8], parts: &[u8], count: usize, lost: usize)
+pub fn rebuild(out: &mut [u8], parts: &[u8], count: usize, lost: usize)
     requires { ⌜ (lost ≤ count) × (length (now parts) ≡ (count + 1) * length (now out)) ⌝ }
     ensures { λ _. ⌜ now (out .exit) ≡ rebuiltOf (length (now (out .entry))) count lost (now (parts .entry)) ⌝ }
 {

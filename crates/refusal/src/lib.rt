@@ -111,23 +111,23 @@ pub fn refusal(d: Description, c: Command, lengths: Lengths) -> Answer
     ensures { λ r. ⌜ r ≡ refusal d c lengths ⌝ }
 {
     let kind = type_rules(d, c);
-    if !answer::good(kind) {
+    if !answer::is_good(kind) {
         return kind;
     }
     let code = code_rule(c);
-    if !answer::good(code) {
+    if !answer::is_good(code) {
         return code;
     }
     let check = check_rule(c);
-    if !answer::good(check) {
+    if !answer::is_good(check) {
         return check;
     }
     let range = segment::range_rule(d, c.address, c.length);
-    if !answer::good(range) {
+    if !answer::is_good(range) {
         return range;
     }
     let size = size_rule(d, c);
-    if !answer::good(size) {
+    if !answer::is_good(size) {
         return size;
     }
     buffer_rule(d, c, lengths)

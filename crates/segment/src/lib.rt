@@ -112,7 +112,7 @@ pub fn segment_rules(d: Description, bytes: usize) -> Answer
     ensures { λ r. ⌜ r ≡ segmentRules d bytes ⌝ }
 {
     let a = description_rule(d);
-    if !answer::good(a) {
+    if !answer::is_good(a) {
         return a;
     }
     if bytes != length(d) {

@@ -24,7 +24,7 @@ fn stripe_rules(d: Description, shaped: bool) -> Answer
     ensures { λ r. ⌜ r ≡ stripeRules d shaped ⌝ }
 {
     let a = segment::description_rule(d);
-    if !answer::good(a) {
+    if !answer::is_good(a) {
         return a;
     }
     if d.kind == 0 {
@@ -41,7 +41,7 @@ pub fn make(d: Description, k: u64, members: &[u8], out: &mut [u8]) -> Answer
     ensures { λ r. ⌜ outcome r (now (out .exit)) ≡ made d k (now (members .entry)) (now (out .entry)) ⌝ }
 {
     let a = stripe_rules(d, in_range(k));
-    if !answer::good(a) {
+    if !answer::is_good(a) {
         return a;
     }
     let count = k as usize;
@@ -61,7 +61,7 @@ pub fn rebuild(d: Description, k: u64, lost: u64, parts: &[u8], out: &mut [u8]) 
     ensures { λ r. ⌜ outcome r (now (out .exit)) ≡ rebuilt d k lost (now (parts .entry)) (now (out .entry)) ⌝ }
 {
     let a = stripe_rules(d, in_range(k));
-    if !answer::good(a) {
+    if !answer::is_good(a) {
         return a;
     }
     if k < lost {
@@ -75,7 +75,7 @@ pub fn rebuild(d: Description, k: u64, lost: u64, parts: &[u8], out: &mut [u8]) 
     if out.len() != long {
         return Answer::Refused(Reason::StripeShapeBad);
     }
-    parity::restore(out, parts, count, lost as usize);
+    parity::rebuild(out, parts, count, lost as usize);
     Answer::Good
 }
 
@@ -84,7 +84,7 @@ pub fn correct(d: Description, old: &[u8], new: &[u8], parity: &mut [u8]) -> Ans
     ensures { λ r. ⌜ outcome r (now (parity .exit)) ≡ corrected d (now (old .entry)) (now (new .entry)) (now (parity .entry)) ⌝ }
 {
     let a = stripe_rules(d, true);
-    if !answer::good(a) {
+    if !answer::is_good(a) {
         return a;
     }
     let long = segment::length(d);

@@ -49,7 +49,7 @@ pub fn judge(t: &[u16; 256], d: Description, c: Command, sent: &[u8], stored: &[
     ensures { λ a. ⌜ a ≡ judged d c (now (sent .entry)) (now (stored .entry)) ⌝ }
 {
     let a = judge_on(t, Side::Sent, d, c, sent);
-    if !answer::good(a) {
+    if !answer::is_good(a) {
         return a;
     }
     judge_on(t, Side::Stored, d, c, stored)

@@ -37,16 +37,16 @@ module _ (d : Description) (l : Lengths) (command : List ℕ) (a : Answer) (g : 
   on-served n f = rw (← e, sym t ∙ not-false g n, f)
 
 returns : tie.Need-returns
-returns c = sym (unfit _ _ _ _ _ (c .before .before .segment-rules .ensures) (c .before .good2 .ensures) (c .if1 .taken))
+returns c = sym (unfit _ _ _ _ _ (c .before .before .segment-rules .ensures) (c .before .is-good .ensures) (c .if1 .taken))
 
 admit-command-requires : tie.Need-admit-command-requires
-admit-command-requires c κs = fitting _ _ _ (c .before .before .before .before .before .good2 .ensures) (c .before .before .before .before .if1 .left) _ (c .before .before .before .before .before .before .segment-rules .ensures) .0
+admit-command-requires c κs = fitting _ _ _ (c .before .before .before .before .before .is-good .ensures) (c .before .before .before .before .if1 .left) _ (c .before .before .before .before .before .before .segment-rules .ensures) .0
 
 returns-2 : tie.Need-returns-2
-returns-2 c = sym (on-refused _ _ _ _ _ (c .before .before .before .before .before .before .segment-rules .ensures) (c .before .before .before .before .before .good2 .ensures) (c .before .before .before .before .if1 .left) (sym (c .before .before .before .decode .ensures) ∙ c .before .decoded .given .1))
+returns-2 c = sym (on-refused _ _ _ _ _ (c .before .before .before .before .before .before .segment-rules .ensures) (c .before .before .before .before .before .is-good .ensures) (c .before .before .before .before .if1 .left) (sym (c .before .before .before .decode .ensures) ∙ c .before .decoded .given .1))
 
 returns-3 : tie.Need-returns-3
-returns-3 c = c .admit-command .ensures ∙ sym (on-served _ _ _ _ _ (c .before .before .before .before .before .before .before .segment-rules .ensures) (c .before .before .before .before .before .before .good2 .ensures) (c .before .before .before .before .before .if1 .left) (sym (c .before .before .before .before .decode .ensures) ∙ c .before .before .decoded2 .given .1))
+returns-3 c = c .admit-command .ensures ∙ sym (on-served _ _ _ _ _ (c .before .before .before .before .before .before .before .segment-rules .ensures) (c .before .before .before .before .before .before .is-good .ensures) (c .before .before .before .before .before .if1 .left) (sym (c .before .before .before .before .decode .ensures) ∙ c .before .before .decoded2 .given .1))
 
 pub admit-spec : {M : Type 1} → statement M
 admit-spec =

@@ -22,10 +22,10 @@ module _ (d : Description) (k : Command) (b : Lengths) (a : Answer) (g : Bool) (
   refuses y = rw (← e, sym t ∙ y)
 
 returns : tie.Need-returns
-returns c = sym (went _ _ _ _ _ (c .before .before .refusal .ensures) (c .before .good2 .ensures) (c .if1 .taken))
+returns c = sym (went _ _ _ _ _ (c .before .before .refusal .ensures) (c .before .is-good .ensures) (c .if1 .taken))
 
 returns-2 : tie.Need-returns-2
-returns-2 c = sym (refuses _ _ _ _ _ (c .before .before .refusal .ensures) (c .before .good2 .ensures) (c .if1 .left))
+returns-2 c = sym (refuses _ _ _ _ _ (c .before .before .refusal .ensures) (c .before .is-good .ensures) (c .if1 .left))
 
 pub admit-command-spec : {M : Type 1} → statement M
 admit-command-spec =

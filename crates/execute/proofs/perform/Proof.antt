@@ -32,7 +32,7 @@ returns : tie.Need-returns
 returns c =
     let judge = c .before .before in
     let span = judge .before .before .before .before .before in
-    refused-performed _ _ _ _ _ _ _ (blocks-are _ _ _ _ _ (span .before .offset .ensures) (span .span .ensures)) (judge .judge .ensures) (c .before .good2 .ensures) (c .if1 .taken)
+    refused-performed _ _ _ _ _ _ _ (blocks-are _ _ _ _ _ (span .before .offset .ensures) (span .span .ensures)) (judge .judge .ensures) (c .before .is-good .ensures) (c .if1 .taken)
 
 enum-told : tie.Need-enum-told
 enum-told c = search needs
@@ -60,7 +60,7 @@ returns-2 c =
     let good = told .before .before in
     let judge = good .before .before in
     let span = judge .before .before .before .before .before in
-    read-performed _ _ _ _ _ _ _ (blocks-are _ _ _ _ _ (span .before .offset .ensures) (span .span .ensures)) (judge .judge .ensures) (good .before .good2 .ensures) (good .if1 .left) (told .enum-told .given .1) _ (c .before .before .hand-out .ensures)
+    read-performed _ _ _ _ _ _ _ (blocks-are _ _ _ _ _ (span .before .offset .ensures) (span .span .ensures)) (judge .judge .ensures) (good .before .is-good .ensures) (good .if1 .left) (told .enum-told .given .1) _ (c .before .before .hand-out .ensures)
 
 returns-3 : tie.Need-returns-3
 returns-3 c =
@@ -68,14 +68,14 @@ returns-3 c =
     let good = told .before .before in
     let judge = good .before .before in
     let span = judge .before .before .before .before .before in
-    write-performed _ _ _ _ _ _ _ (blocks-are _ _ _ _ _ (span .before .offset .ensures) (span .span .ensures)) (judge .judge .ensures) (good .before .good2 .ensures) (good .if1 .left) (told .enum-told2 .given .1) _ (span .before .offset .ensures) _ (c .before .before .store .ensures)
+    write-performed _ _ _ _ _ _ _ (blocks-are _ _ _ _ _ (span .before .offset .ensures) (span .span .ensures)) (judge .judge .ensures) (good .before .is-good .ensures) (good .if1 .left) (told .enum-told2 .given .1) _ (span .before .offset .ensures) _ (c .before .before .store .ensures)
 
 returns-4 : tie.Need-returns-4
 returns-4 c =
     let good = c .before .before in
     let judge = good .before .before in
     let span = judge .before .before .before .before .before in
-    verify-performed _ _ _ _ _ _ _ (blocks-are _ _ _ _ _ (span .before .offset .ensures) (span .span .ensures)) (judge .judge .ensures) (good .before .good2 .ensures) (good .if1 .left) (c .enum-told3 .given .1)
+    verify-performed _ _ _ _ _ _ _ (blocks-are _ _ _ _ _ (span .before .offset .ensures) (span .span .ensures)) (judge .judge .ensures) (good .before .is-good .ensures) (good .if1 .left) (c .enum-told3 .given .1)
 
 pub perform-spec : {M : Type 1} → statement M
 perform-spec =

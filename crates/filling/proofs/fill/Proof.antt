@@ -38,15 +38,15 @@ abbrev start : tie.Else1 → tie.Start
 start p = p .before .before .before .before
 
 fits : (p : tie.Else1) → Segment (start p .args .d) × (length (start p .args .segment .now) ≡ lengthOf (start p .args .d))
-fits p = fitting _ _ _ (p .before .good2 .ensures) (p .if1 .left) _ (p .before .before .segment-rules .ensures)
+fits p = fitting _ _ _ (p .before .is-good .ensures) (p .if1 .left) _ (p .before .before .segment-rules .ensures)
 
 good : (p : tie.Else1) {new : List ℕ} → new ≡ fresh (start p .args .d) → outcome answers.Good new ≡ filled (start p .args .d) (start p .args .segment .now)
 unfolding filled
-good p = leaves-new _ _ _ _ _ (p .before .before .segment-rules .ensures) (p .before .good2 .ensures) (p .if1 .left)
+good p = leaves-new _ _ _ _ _ (p .before .before .segment-rules .ensures) (p .before .is-good .ensures) (p .if1 .left)
 
 returns : tie.Need-returns
 unfolding filled
-returns c = hands-on _ _ _ _ _ (c .before .before .segment-rules .ensures) (c .before .good2 .ensures) (c .if1 .taken)
+returns c = hands-on _ _ _ _ _ (c .before .before .segment-rules .ensures) (c .before .is-good .ensures) (c .if1 .taken)
 
 returns-2 : tie.Need-returns-2
 returns-2 c =

@@ -1,4 +1,4 @@
--- `lamptassel::lamptassel_format_choice`: the number and the type of `format::choose`'s choice.
+-- `lamptassel::lamptassel_format_choice`: the number and the type of `format::choice_of`'s choice.
 -- Assumes nothing.
 use mathlib.Core.Path.{refl}
 use borrow.Author.Needs.{needs}
@@ -7,7 +7,7 @@ use Rattle.lamptassel.proofs.lamptassel_format_choice.Tie as tie
 use Rattle.lamptassel.proofs.Laws.{chosen-told}
 
 returns : tie.Need-returns
-returns c = chosen-told _ _ _ _ (c .before .choose .ensures) (c .number .ensures) refl
+returns c = chosen-told _ _ _ _ (c .before .choice-of .ensures) (c .number .ensures) refl
 
 pub lamptassel-format-choice-spec : {M : Type 1} → statement M
 lamptassel-format-choice-spec =

@@ -42,35 +42,35 @@ all s = refusal (s .args .d) (s .args .c) (s .args .lengths)
 
 below1 : (c : tie.Else1) → all (from1 c) ≡ codes (from1 c)
 unfolding refusal
-below1 c = goes-on _ _ _ _ (c .before .before .type-rules .ensures) (c .before .good2 .ensures) (c .if1 .left)
+below1 c = goes-on _ _ _ _ (c .before .before .type-rules .ensures) (c .before .is-good .ensures) (c .if1 .left)
 
 below2 : (c : tie.Else2) → all (from2 c) ≡ checks (from2 c)
-below2 c = below1 (c .before .before .before) ∙ goes-on _ _ _ _ (c .before .before .code-rule .ensures) (c .before .good3 .ensures) (c .if2 .left)
+below2 c = below1 (c .before .before .before) ∙ goes-on _ _ _ _ (c .before .before .code-rule .ensures) (c .before .is-good2 .ensures) (c .if2 .left)
 
 below3 : (c : tie.Else3) → all (from3 c) ≡ ranges (from3 c)
-below3 c = below2 (c .before .before .before) ∙ goes-on _ _ _ _ (c .before .before .check-rule .ensures) (c .before .good4 .ensures) (c .if3 .left)
+below3 c = below2 (c .before .before .before) ∙ goes-on _ _ _ _ (c .before .before .check-rule .ensures) (c .before .is-good3 .ensures) (c .if3 .left)
 
 below4 : (c : tie.Else4) → all (from4 c) ≡ sizes (from4 c)
-below4 c = below3 (c .before .before .before) ∙ goes-on _ _ _ _ (c .before .before .range-rule .ensures) (c .before .good5 .ensures) (c .if4 .left)
+below4 c = below3 (c .before .before .before) ∙ goes-on _ _ _ _ (c .before .before .range-rule .ensures) (c .before .is-good4 .ensures) (c .if4 .left)
 
 returns : tie.Need-returns
 unfolding refusal
-returns c = sym (stops _ _ _ _ (c .before .before .type-rules .ensures) (c .before .good2 .ensures) (c .if1 .taken))
+returns c = sym (stops _ _ _ _ (c .before .before .type-rules .ensures) (c .before .is-good .ensures) (c .if1 .taken))
 
 returns-2 : tie.Need-returns-2
-returns-2 c = sym (below1 (c .before .before .before) ∙ stops _ _ _ _ (c .before .before .code-rule .ensures) (c .before .good3 .ensures) (c .if2 .taken))
+returns-2 c = sym (below1 (c .before .before .before) ∙ stops _ _ _ _ (c .before .before .code-rule .ensures) (c .before .is-good2 .ensures) (c .if2 .taken))
 
 returns-3 : tie.Need-returns-3
-returns-3 c = sym (below2 (c .before .before .before) ∙ stops _ _ _ _ (c .before .before .check-rule .ensures) (c .before .good4 .ensures) (c .if3 .taken))
+returns-3 c = sym (below2 (c .before .before .before) ∙ stops _ _ _ _ (c .before .before .check-rule .ensures) (c .before .is-good3 .ensures) (c .if3 .taken))
 
 returns-4 : tie.Need-returns-4
-returns-4 c = sym (below3 (c .before .before .before) ∙ stops _ _ _ _ (c .before .before .range-rule .ensures) (c .before .good5 .ensures) (c .if4 .taken))
+returns-4 c = sym (below3 (c .before .before .before) ∙ stops _ _ _ _ (c .before .before .range-rule .ensures) (c .before .is-good4 .ensures) (c .if4 .taken))
 
 size-rule-requires : tie.Need-size-rule-requires
-size-rule-requires c κs = (from4 c .pre, short _ (from4 c .args .c) _ _ (from4 c .pre) (c .before .before .range-rule .ensures) (c .before .good5 .ensures) (c .if4 .left))
+size-rule-requires c κs = (from4 c .pre, short _ (from4 c .args .c) _ _ (from4 c .pre) (c .before .before .range-rule .ensures) (c .before .is-good4 .ensures) (c .if4 .left))
 
 returns-5 : tie.Need-returns-5
-returns-5 c = sym (below4 (c .before .before .before) ∙ stops _ _ _ _ (c .before .before .size-rule .ensures) (c .before .good6 .ensures) (c .if5 .taken))
+returns-5 c = sym (below4 (c .before .before .before) ∙ stops _ _ _ _ (c .before .before .size-rule .ensures) (c .before .is-good5 .ensures) (c .if5 .taken))
 
 buffer-rule-requires : tie.Need-buffer-rule-requires
 buffer-rule-requires c κs = size-rule-requires (c .before .before .before) κs
@@ -78,7 +78,7 @@ buffer-rule-requires c κs = size-rule-requires (c .before .before .before) κs
 returns-6 : tie.Need-returns-6
 returns-6 c =
     let last = c .before in
-    c .buffer-rule .ensures ∙ sym (below4 (last .before .before .before) ∙ goes-on _ _ _ _ (last .before .before .size-rule .ensures) (last .before .good6 .ensures) (last .if5 .left))
+    c .buffer-rule .ensures ∙ sym (below4 (last .before .before .before) ∙ goes-on _ _ _ _ (last .before .before .size-rule .ensures) (last .before .is-good5 .ensures) (last .if5 .left))
 
 pub refusal-spec : {M : Type 1} → statement M
 refusal-spec =

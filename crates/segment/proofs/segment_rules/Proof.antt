@@ -10,10 +10,10 @@ use Rattle.segment.proofs.segment_rules.Tie as tie
 
 returns : tie.Need-returns
 unfolding segmentRules
-returns c = sym (stops _ _ _ _ (c .before .before .description-rule .ensures) (c .before .good2 .ensures) (c .if1 .taken))
+returns c = sym (stops _ _ _ _ (c .before .before .description-rule .ensures) (c .before .is-good .ensures) (c .if1 .taken))
 
 length-requires : tie.Need-length-requires
-length-requires c κs = described _ _ _ (c .before .good2 .ensures) (c .if1 .left) (c .before .before .description-rule .ensures)
+length-requires c κs = described _ _ _ (c .before .is-good .ensures) (c .if1 .left) (c .before .before .description-rule .ensures)
 
 returns-2 : tie.Need-returns-2
 returns-2 c = sym (length-wrong _ _ (described-rule _ (length-requires (c .before .before) _)) (λ e. c .if2 .taken (e ∙ sym (c .before .length .ensures))))

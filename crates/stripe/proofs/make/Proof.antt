@@ -19,27 +19,27 @@ answered : (p : tie.After-stripe-rules) → p .stripe-rules .result ≡ stripeRu
 answered p = p .stripe-rules .ensures ∙ ap (stripeRules (start p .args .d)) (p .before .in-range .ensures)
 
 returns : tie.Need-returns
-returns c = make-stopped _ _ _ _ _ _ (answered (c .before .before)) (c .before .good2 .ensures) (c .if1 .taken)
+returns c = make-stopped _ _ _ _ _ _ (answered (c .before .before)) (c .before .is-good .ensures) (c .if1 .taken)
 
 length-requires : tie.Need-length-requires
-length-requires c κs = passed _ _ _ _ (answered (c .before .before)) (c .before .good2 .ensures) (c .if1 .left) .0
+length-requires c κs = passed _ _ _ _ (answered (c .before .before)) (c .before .is-good .ensures) (c .if1 .left) .0
 
 mul-if2 : tie.Need-mul-if2
 mul-if2 c =
     let rules = c .before in
-    let p = passed _ _ _ _ (answered (rules .before .before)) (rules .before .good2 .ensures) (rules .if1 .left) in
+    let p = passed _ _ _ _ (answered (rules .before .before)) (rules .before .is-good .ensures) (rules .if1 .left) in
     let few = range-facts (start (rules .before .before) .args .k) (p .1 .1) .1 in
     omega (arith, all-most _ (start (rules .before .before) .args .k) _ (p .0) (c .length .ensures) (omega (arith, few)))
 
 returns-2 : tie.Need-returns-2
 returns-2 c =
     let rules = c .before .before in
-    make-unfit _ _ _ _ _ _ (answered (rules .before .before)) (rules .before .good2 .ensures) _ (c .before .length .ensures) (rules .if1 .left) (λ whole room. c .if2 .taken whole)
+    make-unfit _ _ _ _ _ _ (answered (rules .before .before)) (rules .before .is-good .ensures) _ (c .before .length .ensures) (rules .if1 .left) (λ whole room. c .if2 .taken whole)
 
 returns-3 : tie.Need-returns-3
 returns-3 c =
     let rules = c .before .before .before in
-    make-unfit _ _ _ _ _ _ (answered (rules .before .before)) (rules .before .good2 .ensures) _ (c .before .before .length .ensures) (rules .if1 .left) (λ whole room. c .if3 .taken room)
+    make-unfit _ _ _ _ _ _ (answered (rules .before .before)) (rules .before .is-good .ensures) _ (c .before .before .length .ensures) (rules .if1 .left) (λ whole room. c .if3 .taken room)
 
 join-requires : tie.Need-join-requires
 join-requires c κs =
@@ -50,7 +50,7 @@ returns-4 : tie.Need-returns-4
 returns-4 c =
     let tests = c .before .before .before .before .before in
     let rules = tests .before .before .before in
-    make-good _ _ _ _ _ _ (answered (rules .before .before)) (rules .before .good2 .ensures) _ (tests .before .before .length .ensures) (rules .if1 .left) _ (tests .before .if2 .left) (tests .if3 .left) (c .before .before .join .ensures)
+    make-good _ _ _ _ _ _ (answered (rules .before .before)) (rules .before .is-good .ensures) _ (tests .before .before .length .ensures) (rules .if1 .left) _ (tests .before .if2 .left) (tests .if3 .left) (c .before .before .join .ensures)
 
 pub make-spec : {M : Type 1} → statement M
 make-spec =

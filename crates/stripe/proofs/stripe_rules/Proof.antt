@@ -21,11 +21,11 @@ is-not true n t = absurd (true≢false (sym n))
 is-not false n t = t
 
 segment : (p : tie.Else1) → Segment (p .before .before .before .args .d)
-segment p = described _ _ _ (p .before .good2 .ensures) (p .if1 .left) (p .before .before .description-rule .ensures)
+segment p = described _ _ _ (p .before .is-good .ensures) (p .if1 .left) (p .before .before .description-rule .ensures)
 
 returns : tie.Need-returns
 unfolding stripeRules
-returns c = sym (stops _ _ _ _ (c .before .before .description-rule .ensures) (c .before .good2 .ensures) (c .if1 .taken))
+returns c = sym (stops _ _ _ _ (c .before .before .description-rule .ensures) (c .before .is-good .ensures) (c .if1 .taken))
 
 returns-2 : tie.Need-returns-2
 returns-2 c = sym (rules-bad _ _ (segment (c .before .before)) (λ typed t. typed (c .if2 .taken)))

@@ -12,7 +12,7 @@ judge-on-requires c κs = (c .before .before .pre .0, (c .before .before .pre .1
 
 returns : tie.Need-returns
 unfolding judged
-returns c = sym (stops _ _ _ _ (c .before .before .judge-on .ensures) (c .before .good2 .ensures) (c .if1 .taken))
+returns c = sym (stops _ _ _ _ (c .before .before .judge-on .ensures) (c .before .is-good .ensures) (c .if1 .taken))
 
 judge-on-requires-2 : tie.Need-judge-on-requires-2
 judge-on-requires-2 c κs = (c .before .before .before .before .before .pre .0, (c .before .before .before .before .before .pre .1 .0, c .before .before .before .before .before .pre .1 .1 .1))
@@ -21,7 +21,7 @@ returns-2 : tie.Need-returns-2
 unfolding judged
 returns-2 c =
     c .judge-on2 .ensures
-    ∙ sym (goes-on _ _ _ _ (c .before .before .before .judge-on .ensures) (c .before .before .good2 .ensures) (c .before .if1 .left))
+    ∙ sym (goes-on _ _ _ _ (c .before .before .before .judge-on .ensures) (c .before .before .is-good .ensures) (c .before .if1 .left))
 
 pub judge-spec : {M : Type 1} → statement M
 judge-spec =

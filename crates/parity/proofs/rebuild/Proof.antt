@@ -1,4 +1,4 @@
--- `parity::restore`: the parts before the lost one and those after it are whole parts, and its definition takes the same.
+-- `parity::rebuild`: the parts before the lost one and those after it are whole parts, and its definition takes the same.
 -- Assumes nothing.
 use mathlib.Core.Path.{_≡_, sym, _∙_}
 use mathlib.Core.List.{List}
@@ -12,8 +12,8 @@ use Rattle.parity.specs.Parity.{parityOf, rebuiltOf}
 use Rattle.parity.specs.Stretch.{joined}
 use Rattle.parity.proofs.Sums.{by-parts, part-before, behind}
 use borrow.Author.Needs.{needs}
-use Rattle.parity.proofs.restore.Statement.{statement}
-use Rattle.parity.proofs.restore.Tie as tie
+use Rattle.parity.proofs.rebuild.Statement.{statement}
+use Rattle.parity.proofs.rebuild.Tie as tie
 
 restored : (long count lost : ℕ) (s new : List ℕ) → new ≡ joined long lost (take (lost * long) s) (count - lost) (take (length s - (lost * long + long)) (drop (lost * long + long) s))
     → new ≡ rebuiltOf long count lost s
@@ -46,8 +46,8 @@ join-requires c κs =
 returns : tie.Need-returns
 returns c = restored _ _ _ _ _ (c .before .before .join .ensures)
 
-pub restore-spec : {M : Type 1} → statement M
-restore-spec =
+pub rebuild-spec : {M : Type 1} → statement M
+rebuild-spec =
     tie.close
     (tie.spec
     mul-end

@@ -1,8 +1,8 @@
--- `format::supported`: each test decides.
+-- `format::supports`: each test decides.
 -- Assumes nothing.
 use borrow.Author.Tests.{ne-eqb}
-use Rattle.format.proofs.supported.Statement.{statement}
-use Rattle.format.proofs.supported.Tie as tie
+use Rattle.format.proofs.supports.Statement.{statement}
+use Rattle.format.proofs.supports.Tie as tie
 
 returns : tie.Need-returns
 returns c = rw (c .if1 .taken)
@@ -19,5 +19,5 @@ returns-4 c = rw (ne-eqb _ 0 (c .before .before .before .if1 .left), c .if4 .tak
 returns-5 : tie.Need-returns-5
 returns-5 c = rw (ne-eqb _ 0 (c .before .before .before .if1 .left), ne-eqb _ 0 (c .before .before .if2 .left), ne-eqb _ 1 (c .before .if3 .left), ne-eqb _ 3 (c .if4 .left))
 
-pub supported-spec : {M : Type 1} → statement M
-supported-spec = tie.close (tie.spec returns returns-2 returns-3 returns-4 returns-5)
+pub supports-spec : {M : Type 1} → statement M
+supports-spec = tie.close (tie.spec returns returns-2 returns-3 returns-4 returns-5)
