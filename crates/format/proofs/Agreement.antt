@@ -1,4 +1,4 @@
--- Table 9 of 002 and the sentences of document 01 choose the same, for every number within the inRange: all are gone through.
+-- Table 9 of 002 and the sentences of document 01 choose the same, for every number within the ranges: all are gone through.
 -- Assumes nothing.
 use mathlib.Core.Path.{_≡_, refl}
 use Prim.Native.Nat.{ℕ, zero, suc, _≤_}

@@ -10,9 +10,9 @@ use Rattle.format.specs.Choice.{choiceOf, inRange, look, table9, sentenc
 use Rattle.format.proofs.Agreement.{same}
 
 -- "From SPT, PROTECT, FMTPINFO and usage (0-7, 0-1, 0-3, 0-7 ..)": as the sentences choose
-pub within-inRange : (s p f u : ℕ) → inRange s p f u ≡ true → choiceOf s p f u ≡ sentences s p f u
+pub within-ranges : (s p f u : ℕ) → inRange s p f u ≡ true → choiceOf s p f u ≡ sentences s p f u
 unfolding choiceOf
-within-inRange s p f u e =
+within-ranges s p f u e =
     let all : T (inRange s p f u) = rw e tt in
     let pfu = and-right (leb s 7) _ all in
     let fu = and-right (leb p 1) _ pfu in
@@ -21,6 +21,6 @@ within-inRange s p f u e =
     (leb→le f 3 (and-left (leb f 3) _ fu)) (leb→le u 7 (and-right (leb f 3) _ fu))
 
 -- "outside these 6"
-pub outside-inRange : (s p f u : ℕ) → inRange s p f u ≡ false → choiceOf s p f u ≡ illegal FieldInvalid
+pub outside-ranges : (s p f u : ℕ) → inRange s p f u ≡ false → choiceOf s p f u ≡ illegal FieldInvalid
 unfolding choiceOf
-outside-inRange s p f u e = not-chosen (inRange s p f u) (look table9 s p f u) (illegal FieldInvalid) (λ t. rw e at t)
+outside-ranges s p f u e = not-chosen (inRange s p f u) (look table9 s p f u) (illegal FieldInvalid) (λ t. rw e at t)

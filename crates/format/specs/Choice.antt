@@ -67,7 +67,7 @@ table9 =
     ∷ row (only (0b100 ∷ 0b101 ∷ 0b110 ∷ 0b111 ∷ [])) (is 1) (only (0b10 ∷ 0b11 ∷ [])) any (illegal FieldInvalid)
     ∷ []
 
--- the first row that all four meet; numbers within the inRange meet one
+-- the first row that all four meet; numbers within the ranges meet one
 abbrev pub look : List Row → ℕ → ℕ → ℕ → ℕ → Choice
 look [] s p f u = illegal FieldInvalid
 look (r ∷ rs) s p f u =

@@ -1,16 +1,16 @@
--- `format::choice_of`: within the inRange the sentences and the table choose the same.
+-- `format::choice_of`: within the ranges the sentences and the table choose the same.
 -- Assumes nothing.
 use mathlib.Core.Path.{sym, _∙_}
-use Rattle.format.proofs.Demands.{within-inRange, outside-inRange}
+use Rattle.format.proofs.Demands.{within-ranges, outside-ranges}
 use borrow.Author.Needs.{needs}
 use Rattle.format.proofs.choice_of.Statement.{statement}
 use Rattle.format.proofs.choice_of.Tie as tie
 
 returns : tie.Need-returns
-returns c = c .sentences .ensures ∙ sym (within-inRange _ _ _ _ (sym (c .before .before .in-range .ensures) ∙ c .before .if1 .taken))
+returns c = c .sentences .ensures ∙ sym (within-ranges _ _ _ _ (sym (c .before .before .in-range .ensures) ∙ c .before .if1 .taken))
 
 returns-2 : tie.Need-returns-2
-returns-2 c = c .illegal .ensures ∙ sym (outside-inRange _ _ _ _ (sym (c .before .before .in-range .ensures) ∙ c .before .if1 .left))
+returns-2 c = c .illegal .ensures ∙ sym (outside-ranges _ _ _ _ (sym (c .before .before .in-range .ensures) ∙ c .before .if1 .left))
 
 pub choice-of-spec : {M : Type 1} → statement M
 choice-of-spec =
