@@ -2,7 +2,7 @@
 -- Assumes nothing.
 use mathlib.Core.Path.{_≡_, refl, sym, ap, ap₂, _∙_}
 use mathlib.Core.Bool.{Bool, true, false, not}
-use mathlib.Core.List.{List, [], _∷_, _++_}
+use mathlib.Core.List.{List, [], _∷_, _++_, append-assoc}
 use Prim.Native.Nat.{ℕ, _+_, _-_, _*_, _^_, _≤_, zero-le}
 use native.Mathlib.Nat.{zero-add, mul-assoc, mul-le-mul, le-refl}
 use native.Mathlib.Omega.{arith}
@@ -37,10 +37,10 @@ use Rattle.records.proofs.RecordLaws.{Whole, record-whole}
 abbrev pub refusedWord : List ℕ
 refusedWord = 0x72 ∷ 0x65 ∷ 0x66 ∷ 0x75 ∷ 0x73 ∷ 0x65 ∷ 0x64 ∷ 0x20 ∷ []
 
-pub refused-written : (a : Answer) {n at m z : ℕ} {o om oz : List ℕ} → n ≡ numberOf a → Written refusedWord at o m om → Written (decimal n ++ (0x0A ∷ [])) m om z oz
+pub refused-written : (a : Answer) {n at z : ℕ} {o oz : List ℕ} → n ≡ numberOf a → Written (refusedWord ++ (decimal n ++ (0x0A ∷ []))) at o z oz
     → Written (refusedText a) at o z oz
 unfolding refusedText
-refused-written a {n} e p q = written-then p (written-as (ap (λ (i : ℕ). decimal i ++ (0x0A ∷ [])) e) q)
+refused-written a e w = written-as (ap (λ (i : ℕ). refusedWord ++ (decimal i ++ (0x0A ∷ []))) e) w
 
 -- ---- the lines of a segment
 module _ (d : Description) (s : List ℕ) (g : Segment d) (long : lengthOf d ≡ length s) where
@@ -107,11 +107,11 @@ module _ (d : Description) (s : List ℕ) (g : Segment d) (long : lengthOf d ≡
       omega (arith, room-next 0 room w .at)
 
 -- ---- the last line
-module _ (l f k : ℕ) {at a b c d e z : ℕ} {o oa ob oc od oe oz : List ℕ} where
-  pub numbers-written : Written intervalsText at o a oa → Written (decimal l) a oa b ob → Written faultsText b ob c oc → Written (decimal f) c oc d od
-      → Written skippedText d od e oe → Written (decimal k ++ (0x0A ∷ [])) e oe z oz → Written (numbersText l f k) at o z oz
+module _ (l f k : ℕ) {at a b z : ℕ} {o oa ob oz : List ℕ} where
+  pub numbers-written : Written (intervalsText ++ (decimal l ++ (0x20 ∷ []))) at o a oa → Written (faultsText ++ (decimal f ++ (0x20 ∷ []))) a oa b ob
+      → Written (skippedText ++ (decimal k ++ (0x0A ∷ []))) b ob z oz → Written (numbersText l f k) at o z oz
   unfolding numbersText
-  numbers-written wa wb wc wd we wz = written-then wa (written-then wb (written-then wc (written-then wd (written-then we wz))))
+  numbers-written wl wf wk = written-as (simp append-assoc) (written-then wl (written-then wf wk))
 
 -- ---- all of it
 pub tail-whole : (n : ℕ) (s : List ℕ) → take (length s - n) (drop n s) ≡ drop n s

@@ -16,8 +16,7 @@ use sheet::Sheet;
 fn print_refused(out: &mut [u8], a: Answer) -> usize
     ensures { λ r. ⌜ Written (refusedText a) 0 (now (out .entry)) r (now (out .exit)) ⌝ }
 {
-    let at = text::put_word(out, 0, b"refused ");
-    text::decimal_then(out, at, answer::number(a), 0x0A)
+    text::labelled(out, 0, b"refused ", answer::number(a), 0x0A)
 }
 
 // The lines of a segment, printed; type 0 has none. The states are those of what code 001 of a 16-byte READ of the whole segment
@@ -43,12 +42,9 @@ fn print_total(out: &mut [u8], t: Sheet) -> usize
     requires { ⌜ t .at + 88 ≤ 2 ^ 32 ⌝ }
     ensures { λ r. ⌜ Written (numbersText (t .lines) (t .faults) (t .skipped)) (t .at) (now (out .entry)) r (now (out .exit)) ⌝ }
 {
-    let a = text::put_word(out, t.at, b"intervals ");
-    let b = text::decimal(out, a, t.lines);
-    let c = text::put_word(out, b, b" faults ");
-    let d = text::decimal(out, c, t.faults);
-    let e = text::put_word(out, d, b" skipped ");
-    text::decimal_then(out, e, t.skipped, 0x0A)
+    let a = text::labelled(out, t.at, b"intervals ", t.lines, 0x20);
+    let b = text::labelled(out, a, b"faults ", t.faults, 0x20);
+    text::labelled(out, b, b"skipped ", t.skipped, 0x0A)
 }
 
 // The listing of a segment: header, lines, last line.

@@ -9,6 +9,7 @@ use Rattle.text.proofs.hexadecimal.Reads as hexadecimal-reads
 use Rattle.text.proofs.decimal.Reads as decimal-reads
 use Rattle.text.proofs.decimal_then.Reads as decimal-then-reads
 use Rattle.text.proofs.hexadecimal_then.Reads as hexadecimal-then-reads
+use Rattle.text.proofs.labelled.Reads as labelled-reads
 
 pub put : (κs : _) (a : _) (x y : _) (s t : _) → put-reads.Post κs a x s → put-reads.Post κs a y t → (x ≡ y) × (now (s .0) ≡ now (t .0))
 put κs a x y s t p q = (p .end ∙ sym (q .end), p .now ∙ sym (q .now))
@@ -27,3 +28,6 @@ decimal-then κs a x y s t p q = (p .end ∙ sym (q .end), p .now ∙ sym (q .no
 
 pub hexadecimal-then : (κs : _) (a : _) (x y : _) (s t : _) → hexadecimal-then-reads.Post κs a x s → hexadecimal-then-reads.Post κs a y t → (x ≡ y) × (now (s .0) ≡ now (t .0))
 hexadecimal-then κs a x y s t p q = (p .end ∙ sym (q .end), p .now ∙ sym (q .now))
+
+pub labelled : (κs : _) (a : _) (x y : _) (s t : _) → labelled-reads.Post κs a x s → labelled-reads.Post κs a y t → (x ≡ y) × (now (s .0) ≡ now (t .0))
+labelled κs a x y s t p q = (p .end ∙ sym (q .end), p .now ∙ sym (q .now))

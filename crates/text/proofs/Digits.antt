@@ -80,3 +80,7 @@ decimal-then-end n b w = omega (arith, w .end, decimal-most n, length-append (de
 
 pub hexadecimal-then-end : (k n b : ℕ) {at r : ℕ} {out left : List ℕ} → Written (hexadecimal k n ++ (b ∷ [])) at out r left → r ≡ at + (k + 1)
 hexadecimal-then-end k n b w = omega (arith, w .end, hexadecimal-length k n, length-append (hexadecimal k n) (b ∷ []))
+
+pub labelled-end : (w : List ℕ) (n b : ℕ) {at r : ℕ} {out left : List ℕ} → Written (w ++ (decimal n ++ (b ∷ []))) at out r left → r ≤ at + length w + 21
+labelled-end w n b p =
+    omega (arith, p .end, decimal-most n, length-append w (decimal n ++ (b ∷ [])), length-append (decimal n) (b ∷ []))

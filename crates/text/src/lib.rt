@@ -94,3 +94,12 @@ pub fn hexadecimal_then(out: &mut [u8], at: usize, k: usize, n: u64, b: u8) -> u
     let end = hexadecimal(out, at, k, n);
     put(out, end, b)
 }
+
+// A word, a number behind it, and one byte behind that.
+pub fn labelled(out: &mut [u8], at: usize, word: &[u8], n: u64, b: u8) -> usize
+    requires { ⌜ at + length (now word) + 21 ≤ 2 ^ 32 ⌝ }
+    ensures { λ r. ⌜ Written (now (word .entry) ++ (decimal n ++ (b ∷ []))) at (now (out .entry)) r (now (out .exit)) ⌝ }
+{
+    let end = put_word(out, at, word);
+    decimal_then(out, end, n, b)
+}

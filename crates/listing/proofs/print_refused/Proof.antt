@@ -7,12 +7,11 @@ use Rattle.listing.proofs.print_refused.Statement.{statement}
 use Rattle.listing.proofs.print_refused.Tie as tie
 
 returns : tie.Need-returns
-returns c = refused-written _ (c .before .before .before .number .ensures) (c .before .before .before .before .before .before .before .put-word .ensures) (c .before .before .decimal-then .ensures)
+returns c = refused-written _ (c .before .before .before .number .ensures) (c .before .before .labelled .ensures)
 
 pub print-refused-spec : {M : Type 1} → statement M
 print-refused-spec =
     tie.close
     (tie.spec
-    (λ c. refl) (λ c κs. search needs) (λ c κs. search needs) (λ c κs. search needs)
-    (λ c. search needs)
+    (λ c. refl) (λ c κs. search needs) (λ c κs. search needs) (λ c. search needs)
     returns)
