@@ -58,10 +58,6 @@ both-good a b e = by (isGood a) refl e
     by true p q = (p, q)
     by false p q = (q, absurd (true≢false (sym q ∙ p)))
 
--- and where every rung is good, so is the ladder
-pub all-good : (a b : Answer) → isGood a ≡ true → orElse a b ≡ b
-all-good a b e = rw e
-
 -- a rule that does not refuse
 pub not-refused : (b : Bool) (r : Reason) → isGood (refusedIf b r) ≡ true → b ≡ false
 not-refused true r e = absurd (true≢false (sym e))

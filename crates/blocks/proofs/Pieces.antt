@@ -5,12 +5,10 @@ use mathlib.Core.List.{List, [], _∷_, _++_, append-assoc}
 use Prim.Native.Nat.{ℕ, zero, suc, _+_, _-_, _*_, _≤_}
 use native.Mathlib.Nat.{suc-mul, zero-mul, zero-add, suc-add, le-of-eq}
 use native.Mathlib.Omega.{arith}
-use lib.Dec.{lit<}
 use lib.ListN.{length, take, drop, length-append, length-drop, take-append-drop}
 use lib.Seq.{drop-append-le, drop-at, take-add, length-take-le}
-use Rattle.words.specs.Parts.{Bytes}
 use Rattle.words.specs.Runs.{runs}
-use Rattle.words.proofs.Parts.{part-at, one-more, drop-more, drop-bytes, append-bytes}
+use Rattle.words.proofs.Parts.{part-at, one-more, drop-more}
 
 -- one piece, and the rest
 pub one-within : (k P n : ℕ) → suc k * P ≤ n → P ≤ n
@@ -33,11 +31,6 @@ module _ {A : Type 0} (piece : A → List ℕ → List ℕ) (next : A → A) (P 
       length-append (piece t s) (runs piece next P k (next t) (drop P s))
       ∙ ap₂ (λ (x y : ℕ). x + y) (each t s (one-within k P (length s) h)) (runs-length p each k (next t) (drop P s) (rest-within k P s h))
       ∙ sym (one-more k p)
-
-  pub runs-bytes : ((t : A) (l : List ℕ) → Bytes l → Bytes (piece t l)) → (k : ℕ) (t : A) (s : List ℕ) → Bytes s → Bytes (runs piece next P k t s)
-  unfolding runs
-  runs-bytes each zero t s p = λ i. lit< tt
-  runs-bytes each (suc k) t s p = append-bytes (piece t s) _ (each t s p) (runs-bytes each k (next t) (drop P s) (drop-bytes P s p))
 
   -- what lies behind the pieces' own elements does not count
   pub runs-behind : ((t : A) (l r : List ℕ) → P ≤ length l → piece t (l ++ r) ≡ piece t l)

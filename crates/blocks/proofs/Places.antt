@@ -7,8 +7,7 @@ use native.Mathlib.Nat.{zero-add}
 use native.Mathlib.Omega.{arith}
 use lib.ListN.{length, take, drop, length-append}
 use lib.Seq.{take-append-le, take-append-seam, take-take, drop-at, drop-append-add, drop-drop, length-take-le, drop-length}
-use Rattle.words.specs.Parts.{put, Bytes}
-use Rattle.words.proofs.Parts.{take-bytes, drop-bytes, append-bytes}
+use Rattle.words.specs.Parts.{put}
 
 -- ---- what was put at a place
 module _ (at : ℕ) (new old : List ℕ) (fits : at + length new ≤ length old) where
@@ -37,9 +36,3 @@ module _ (at : ℕ) (new old : List ℕ) (fits : at + length new ≤ length old)
 pub put-all : (new old : List ℕ) → length new ≡ length old → put 0 new old ≡ new
 unfolding put
 put-all new old e = rw (zero-add, e, drop-length, append-nil)
-
-pub put-bytes : (at : ℕ) (new old : List ℕ) → Bytes new → Bytes old → Bytes (put at new old)
-unfolding put
-put-bytes at new old p q =
-    append-bytes (take at old) _ (take-bytes at old q)
-    (append-bytes new _ p (drop-bytes (at + length new) old q))

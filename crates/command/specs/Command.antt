@@ -50,11 +50,22 @@ recognise c =
     (find (getD c 0 0) byteZero))
 
 -- The table's columns: bytes, where the address and the length stand and how many bytes each has, the protect byte.
+abbrev pub laid : ℕ → ℕ → ℕ → ℕ → ℕ → ℕ → Layout
+laid bytes address addressed length lengthened protect =
+    record {
+      bytes = bytes;
+      address = address;
+      addressed = addressed;
+      length = length;
+      lengthened = lengthened;
+      protect = protect;
+    }
+
 abbrev pub layoutOf : Form → Layout
-layoutOf Ten = record { bytes = 10; address = 2; addressed = 4; length = 7; lengthened = 2; protect = 1 }
-layoutOf Twelve = record { bytes = 12; address = 2; addressed = 4; length = 6; lengthened = 4; protect = 1 }
-layoutOf Sixteen = record { bytes = 16; address = 2; addressed = 8; length = 10; lengthened = 4; protect = 1 }
-layoutOf ThirtyTwo = record { bytes = 32; address = 12; addressed = 8; length = 28; lengthened = 4; protect = 10 }
+layoutOf Ten = laid 10 2 4 7 2 1
+layoutOf Twelve = laid 12 2 4 6 4 1
+layoutOf Sixteen = laid 16 2 8 10 4 1
+layoutOf ThirtyTwo = laid 32 12 8 28 4 10
 
 abbrev pub isLong : Form → Bool
 isLong Ten = false

@@ -1,7 +1,7 @@
 // From a command's bytes to what it asks for, by value; or the refusal.
 ghost use mathlib.Core.Path.{_≡_};
 ghost use lib.ListN.{length};
-ghost use Rattle.command.specs.Command.{checkBits, recognise, layoutOf, isLong, fields, decodeAs, decode};
+ghost use Rattle.command.specs.Command.{checkBits, recognise, laid, layoutOf, isLong, fields, decodeAs, decode};
 ghost use Rattle.command.specs.Sixteen.{sixteen};
 use answer::Reason;
 
@@ -87,43 +87,35 @@ fn recognise(c: &[u8]) -> Named
     }
 }
 
-// The row of a form.
+fn laid(
+    bytes: usize,
+    address: usize,
+    addressed: usize,
+    length: usize,
+    lengthened: usize,
+    protect: usize,
+) -> Layout
+    ensures { λ r. ⌜ r ≡ laid bytes address addressed length lengthened protect ⌝ }
+{
+    Layout {
+        bytes,
+        address,
+        addressed,
+        length,
+        lengthened,
+        protect,
+    }
+}
+
+// The row of a form: its bytes, the address, the length, the protect byte.
 fn layout_of(f: Form) -> Layout
     ensures { λ r. ⌜ r ≡ layoutOf f ⌝ }
 {
     match f {
-        Form::Ten => Layout {
-            bytes: 10,
-            address: 2,
-            addressed: 4,
-            length: 7,
-            lengthened: 2,
-            protect: 1,
-        },
-        Form::Twelve => Layout {
-            bytes: 12,
-            address: 2,
-            addressed: 4,
-            length: 6,
-            lengthened: 4,
-            protect: 1,
-        },
-        Form::Sixteen => Layout {
-            bytes: 16,
-            address: 2,
-            addressed: 8,
-            length: 10,
-            lengthened: 4,
-            protect: 1,
-        },
-        Form::ThirtyTwo => Layout {
-            bytes: 32,
-            address: 12,
-            addressed: 8,
-            length: 28,
-            lengthened: 4,
-            protect: 10,
-        },
+        Form::Ten => laid(10, 2, 4, 7, 2, 1),
+        Form::Twelve => laid(12, 2, 4, 6, 4, 1),
+        Form::Sixteen => laid(16, 2, 8, 10, 4, 1),
+        Form::ThirtyTwo => laid(32, 12, 8, 28, 4, 10),
     }
 }
 

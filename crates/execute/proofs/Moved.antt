@@ -12,7 +12,7 @@ use lib.ListN.{length, take, drop, take-append-drop}
 use lib.Seq.{take-all}
 use Rattle.words.specs.Parts.{Bytes}
 use Rattle.words.specs.Runs.{runs}
-use Rattle.answer.specs.Answer.{isGood, orElse}
+use Rattle.answer.specs.Answer.{isGood}
 use Rattle.answer.specs.Outcome.{Outcome, outcome}
 use Rattle.answer.specs.declared.Answer.{Answer}
 use Rattle.answer.specs.declared.Answer.the-variants as answers

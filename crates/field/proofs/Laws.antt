@@ -11,8 +11,8 @@ use lib.Seq.{drop-drop, drop-at, take-at, take-take}
 use Rattle.words.specs.BigEndian.{number, numberAt, bytes}
 use Rattle.words.specs.Parts.{Bytes, put}
 use Rattle.words.specs.Xor.{xors}
-use Rattle.words.proofs.BigEndian.{bytes-length, bytes-bytes, number-xors}
-use Rattle.words.proofs.Parts.{part-at, drop-take, take-bytes, part-bytes, append-bytes}
+use Rattle.words.proofs.BigEndian.{bytes-length, number-xors}
+use Rattle.words.proofs.Parts.{part-at, drop-take, take-bytes, part-bytes}
 use Rattle.words.proofs.Runs.{peel-within, peel-rest}
 use Rattle.words.proofs.Xor.{xors-take, xors-drop}
 use Rattle.field.specs.Field.{storedGuard, fieldBytes, dataOf, fieldOf}
@@ -63,10 +63,6 @@ module _ (g a r : ℕ) where
   pub field-length : length (fieldBytes g a r) ≡ 8
   unfolding fieldBytes
   field-length = simp (length-append, bytes-length)
-
-  pub field-bytes : Bytes (fieldBytes g a r)
-  unfolding fieldBytes
-  field-bytes = append-bytes (bytes 2 g) _ (bytes-bytes 2 g) (append-bytes (bytes 2 a) _ (bytes-bytes 2 a) (bytes-bytes 4 r))
 
   -- three numbers put into eight bytes, one after the other
   pub field-put : (d d₁ d₂ d₃ : List ℕ) → length d ≡ 8 → d₁ ≡ put 0 (bytes 2 g) d → d₂ ≡ put 2 (bytes 2 a) d₁ → d₃ ≡ put 4 (bytes 4 r) d₂ → d₃ ≡ fieldBytes g a r

@@ -26,7 +26,7 @@ fn by_usage(usage: u64, wanted: u64, kind: u64) -> Choice
     if usage == wanted {
         return Choice {
             answer: Answer::Good,
-            kind: kind,
+            kind,
         };
     }
     illegal(Reason::ParameterInvalid)

@@ -5,14 +5,12 @@ use mathlib.Core.List.{List, [], _++_, append-nil}
 use Prim.Native.Nat.{ℕ, _+_, _*_, _%_, _^_, _≤_}
 use lib.ListN.{length, take, length-append}
 use lib.Seq.{take-append-le, length-take-le}
-use Rattle.words.specs.Parts.{Bytes}
 use Rattle.words.specs.Runs.{runs}
-use Rattle.words.proofs.Parts.{take-bytes, append-bytes}
 use Rattle.guard.specs.Guard.{guard}
 use Rattle.field.specs.Field.{fieldBytes, dataOf, fieldOf}
-use Rattle.field.proofs.Laws.{data-laid, field-laid, field-length, field-bytes}
+use Rattle.field.proofs.Laws.{data-laid, field-laid, field-length}
 use Rattle.blocks.specs.Blocks.{userData}
-use Rattle.blocks.proofs.Pieces.{runs-length, runs-bytes, runs-behind, runs-read, runs-lots}
+use Rattle.blocks.proofs.Pieces.{runs-length, runs-behind, runs-read, runs-lots}
 use Rattle.insertion.specs.declared.Marks.{Marks}
 use Rattle.insertion.specs.Insertion.{withField, later, storedBlock, storedBlocks}
 
@@ -39,18 +37,6 @@ unfolding storedBlocks
 blocks-length size n k m s h = runs-length (storedBlock size n) (later n) (n * size) (n * (size + 8)) (block-length size n) k m s h
 
 -- ---- bytes
-pub interval-bytes : (size : ℕ) (m : Marks) (s : List ℕ) → Bytes s → Bytes (withField size m s)
-unfolding withField
-interval-bytes size m s p = append-bytes (take size s) _ (take-bytes size s p) (field-bytes _ _ _)
-
-pub block-bytes : (size n : ℕ) (m : Marks) (s : List ℕ) → Bytes s → Bytes (storedBlock size n m s)
-unfolding storedBlock
-block-bytes size n m s p = runs-bytes (withField size) (later 1) size (interval-bytes size) n m s p
-
-pub blocks-bytes : (size n k : ℕ) (m : Marks) (s : List ℕ) → Bytes s → Bytes (storedBlocks size n k m s)
-unfolding storedBlocks
-blocks-bytes size n k m s p = runs-bytes (storedBlock size n) (later n) (n * size) (block-bytes size n) k m s p
-
 -- ---- what lies behind the intervals' own bytes does not count
 pub interval-behind : (size : ℕ) (m : Marks) (s r : List ℕ) → size ≤ length s → withField size m (s ++ r) ≡ withField size m s
 unfolding withField
@@ -59,10 +45,6 @@ interval-behind size m s r h = ap (λ (l : List ℕ). l ++ fieldBytes (guard l) 
 pub block-behind : (size n : ℕ) (m : Marks) (s r : List ℕ) → n * size ≤ length s → storedBlock size n m (s ++ r) ≡ storedBlock size n m s
 unfolding storedBlock
 block-behind size n m s r h = runs-behind (withField size) (later 1) size (interval-behind size) n m s r h
-
-pub blocks-behind : (size n k : ℕ) (m : Marks) (s r : List ℕ) → k * (n * size) ≤ length s → storedBlocks size n k m (s ++ r) ≡ storedBlocks size n k m s
-unfolding storedBlocks
-blocks-behind size n k m s r h = runs-behind (storedBlock size n) (later n) (n * size) (block-behind size n) k m s r h
 
 -- ---- what was stored reads back, also where the list goes on behind it
 module _ (size : ℕ) (m : Marks) (s r : List ℕ) (h : size ≤ length s) where
@@ -77,9 +59,6 @@ module _ (size : ℕ) (m : Marks) (s r : List ℕ) (h : size ≤ length s) where
 pub block-read-on : (size n : ℕ) (m : Marks) (s r : List ℕ) → n * size ≤ length s → userData size n (storedBlock size n m s ++ r) ≡ take (n * size) s
 unfolding userData storedBlock
 block-read-on size n m s r h = runs-read (withField size) (later 1) size (take size) (size + 8) (interval-read-on size) (interval-length size) n m s r h
-
-pub block-read : (size n : ℕ) (m : Marks) (s : List ℕ) → n * size ≤ length s → userData size n (storedBlock size n m s) ≡ take (n * size) s
-block-read size n m s h = rw append-nil at (block-read-on size n m s [] h)
 
 pub blocks-read-on : (size n k : ℕ) (m : Marks) (s r : List ℕ) → k * (n * size) ≤ length s → userData size (k * n) (storedBlocks size n k m s ++ r) ≡ take (k * (n * size)) s
 unfolding userData storedBlocks

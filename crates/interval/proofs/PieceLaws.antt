@@ -1,6 +1,6 @@
 -- One interval: each answer is given exactly when its field is the first wrong one.
 -- Assumes nothing.
-use mathlib.Core.Path.{_≡_, refl, sym, ap}
+use mathlib.Core.Path.{_≡_, refl, ap}
 use mathlib.Core.Bool.{Bool, true, false, not, _&&_, cond, true≢false}
 use mathlib.Core.List.{List}
 use Prim.Native.Nat.{ℕ}
@@ -67,8 +67,3 @@ module _ (r : Rules) (p : Place) (d f : List ℕ) where
   pub pieces-verdict : Verdict (guardWrong r d f) (applicationWrong r f) (referenceWrong r p f) (p .address) (p .interval) (judgePieces r p d f)
   unfolding judgePieces
   pieces-verdict = in-order (guardWrong r d f) (applicationWrong r f) (referenceWrong r p f) (p .address) (p .interval)
-
-  -- what is not checked is not wrong
-  pub pieces-unchecked : r .guard ≡ false → r .application ≡ false → r .reference ≡ false → judgePieces r p d f ≡ answers.Good
-  unfolding guardWrong applicationWrong referenceWrong
-  pieces-unchecked g a x = pieces-verdict .good .1 (sym (unchecked _ _ g), sym (unchecked _ _ a), sym (unchecked _ _ x))

@@ -18,10 +18,9 @@ use Rattle.answer.specs.declared.Answer.the-variants as answers
 use Rattle.interval.specs.declared.Rules.{Rules}
 use Rattle.interval.specs.declared.Place.{Place}
 use Rattle.interval.specs.Interval.{anyEscapes, judgePieces, judgeInterval}
-use Rattle.interval.proofs.PieceLaws.{pieces-unchecked}
 use Rattle.interval.proofs.IntervalLaws.{own-any}
 use Rattle.judge.specs.Judge.{judgeIntervals, judgeBlock, judgeBlocks, nextInterval, nextBlock, Run}
-use Rattle.judge.proofs.FirstLaws.{own-bytes, first-good, first-two}
+use Rattle.judge.proofs.FirstLaws.{own-bytes, first-two}
 
 -- ---- what judging can depend on
 module _ (r : Rules) where
@@ -35,15 +34,7 @@ module _ (r : Rules) where
       ap₂ (λ (b : Bool) (a : Answer). cond b answers.Good a) (own-any (r .escape) (r .size) (r .intervals) s)
       (own-bytes (judgeInterval r) nextInterval (r .size + 8) own-interval (r .intervals) p s)
 
-  pub own-blocks : (k : ℕ) (p : Place) (s : List ℕ) → judgeBlocks r k p (take (k * (r .intervals * (r .size + 8))) s) ≡ judgeBlocks r k p s
-  unfolding judgeBlocks
-  own-blocks = own-bytes (judgeBlock r) (nextBlock (r .intervals)) (r .intervals * (r .size + 8)) own-block
-
 -- ---- a block, by its escape
-cond-same : {A : Type 0} (b : Bool) (x : A) → cond b x x ≡ x
-cond-same true x = refl
-cond-same false x = refl
-
 module _ (r : Rules) (p : Place) (s : List ℕ) where
   pub block-escaped : anyEscapes (r .escape) (r .size) (r .intervals) s ≡ true → judgeBlock r p s ≡ answers.Good
   unfolding judgeBlock
@@ -52,22 +43,6 @@ module _ (r : Rules) (p : Place) (s : List ℕ) where
   pub block-judged : anyEscapes (r .escape) (r .size) (r .intervals) s ≡ false → judgeBlock r p s ≡ judgeIntervals r (r .intervals) p s
   unfolding judgeBlock
   block-judged e = rw e refl
-
--- ---- where nothing is checked
-module _ (r : Rules) (g : r .guard ≡ false) (a : r .application ≡ false) (x : r .reference ≡ false) where
-  pub interval-unchecked : (p : Place) (s : List ℕ) → judgeInterval r p s ≡ answers.Good
-  unfolding judgeInterval
-  interval-unchecked p s = pieces-unchecked r p _ _ g a x
-
-  pub block-unchecked : (p : Place) (s : List ℕ) → judgeBlock r p s ≡ answers.Good
-  unfolding judgeBlock judgeIntervals
-  block-unchecked p s =
-      let same = first-good (judgeInterval r) nextInterval (r .size + 8) (r .intervals) p s .1 (λ j h. interval-unchecked _ _) in
-      rw same (cond-same (anyEscapes (r .escape) (r .size) (r .intervals) s) answers.Good)
-
-  pub blocks-unchecked : (k : ℕ) (p : Place) (s : List ℕ) → judgeBlocks r k p s ≡ answers.Good
-  unfolding judgeBlocks
-  blocks-unchecked k p s = first-good (judgeBlock r) (nextBlock (r .intervals)) (r .intervals * (r .size + 8)) k p s .1 (λ j h. block-unchecked _ _)
 
 -- ---- intervals and blocks in two runs, from any place
 module _ (r : Rules) (k m : ℕ) (p : Place) (s : List ℕ) where

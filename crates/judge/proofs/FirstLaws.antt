@@ -1,6 +1,6 @@
 -- The laws of what is judged piece by piece: one turn of a loop, which piece the answer is of, and which elements it can depend on.
 -- Assumes nothing.
-use mathlib.Core.Path.{_≡_, refl, sym, ap, _∙_}
+use mathlib.Core.Path.{_≡_, refl, _∙_}
 use mathlib.Core.Logic.{_↔_, ⊎-elim}
 use mathlib.Core.Bool.{true, false, true≢false}
 use mathlib.Core.List.{List}
@@ -11,7 +11,7 @@ use lib.ListN.{take, drop}
 use Rattle.answer.specs.Answer.{isGood, orElse}
 use Rattle.answer.specs.declared.Answer.{Answer}
 use Rattle.answer.specs.declared.Answer.the-variants as answers
-use Rattle.answer.proofs.Ladder.{good-or, not-both, orElse-good, orElse-assoc}
+use Rattle.answer.proofs.Ladder.{good-or, orElse-good, orElse-assoc}
 use Rattle.words.proofs.Turns.{after, pieceAt, piece-zero, piece-suc, all-of, turn-of, own-of, every-of, two-of}
 use Rattle.judge.specs.FirstOf.{firstOf}
 
@@ -80,15 +80,3 @@ module _ {A : Type 0} (judge : A → List ℕ → Answer) (next : A → A) (P : 
       rw n
       (record { at = 0; within = omega arith; earlier = λ j h. absurd (not-suc-le-zero h); here = piece-zero judge next P t s; wrong = n }))
       (good-or (judge t s))
-
-  pub first-is : (k : ℕ) (t : A) (s : List ℕ) (a : Answer) → FirstWrong k t s a → firstOf judge next P k t s ≡ a
-  first-is k t s a f =
-      ⊎-elim
-      (λ e. absurd (not-both a (sym (f .here) ∙ first-good k t s .0 e (f .at) (f .within)) (f .wrong)))
-      (λ w.
-      let g = first-found k t s w in
-      let before : g .at < f .at → ⊥ = λ h. not-both _ (sym (g .here) ∙ f .earlier (g .at) h) (g .wrong) in
-      let behind : f .at < g .at → ⊥ = λ h. not-both a (sym (f .here) ∙ g .earlier (f .at) h) (f .wrong) in
-      let same : g .at ≡ f .at = omega arith in
-      sym (g .here) ∙ ap (pieceAt judge next P t s) same ∙ f .here)
-      (good-or (firstOf judge next P k t s))

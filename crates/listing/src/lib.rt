@@ -60,7 +60,7 @@ fn print_listed(d: Description, s: &[u8], out: &mut [u8]) -> usize
         s,
         out,
         Sheet {
-            at: at,
+            at,
             lines: 0,
             faults: 0,
             skipped: 0,

@@ -37,7 +37,7 @@ pub fn described_by(input: &[u8]) -> Description
         kind: input[5] as u64,
         block: words::read2(input, 7) as u64,
         exponent: input[6] as u64,
-        first: words::read8(input, 9),
+        first: words::read_at(input, 9, 8),
         count: words::read2(input, 17) as u64,
         ato: 0,
     }

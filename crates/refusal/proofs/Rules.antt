@@ -18,7 +18,6 @@ use Rattle.segment.specs.Places.{rangeRule}
 use Rattle.segment.proofs.Laws.{sizes}
 use Rattle.segment.proofs.Places.{range-facts}
 use Rattle.command.specs.declared.Command.{Command}
-use Rattle.command.specs.declared.Operation.{Operation}
 use Rattle.refusal.specs.declared.Lengths.{Lengths}
 use Rattle.refusal.specs.Refusal.{typeRules, codeRule, isVerify, checkRule, movedOf, sizeRule, bufferOf, bufferRule}
 

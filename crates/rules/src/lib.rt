@@ -31,9 +31,9 @@ fn columns_in(guard: bool, application: bool, reference: bool) -> Columns
     ensures { λ r. ⌜ r ≡ columnsIn guard application reference ⌝ }
 {
     Columns {
-        guard: guard,
-        application: application,
-        reference: reference,
+        guard,
+        application,
+        reference,
     }
 }
 
@@ -109,8 +109,8 @@ pub fn rules(side: Side, d: Description, c: Command) -> Rules
         intervals: segment::intervals(d),
         size: segment::size(d),
         guard: columns.guard,
-        application: application,
-        reference: reference,
+        application,
+        reference,
         expected: c.application,
         mask: c.mask,
         escape: escape_of(side, d.kind),
@@ -193,18 +193,9 @@ pub fn marks(d: Description, c: Command) -> Marks
     requires { ⌜ Segment d ⌝ }
     ensures { λ r. ⌜ r ≡ marksOf d c ⌝ }
 {
-    let application = inserted_application(d, c);
-    let reference = inserted_reference(d, c);
-    if d.kind == 3 {
-        return Marks {
-            application: application,
-            reference: reference,
-            step: 0,
-        };
-    }
     Marks {
-        application: application,
-        reference: reference,
-        step: 1,
+        application: inserted_application(d, c),
+        reference: inserted_reference(d, c),
+        step: if d.kind == 3 { 0 } else { 1 },
     }
 }

@@ -106,35 +106,7 @@ fn on_m(name: &[u8], command: &[u8], buffer: &mut [u8]) {
 // What is asked, the answer's number, address and interval, and the lent bytes afterwards.
 fn result_lines(name: &[u8], a: Answer, segment: &[u8], buffer: &[u8]) {
     io::write_all(1, name);
-    answer_line(a);
-    bytes_line(b"  segment ", segment);
-    bytes_line(b"  buffer  ", buffer);
-}
-
-fn answer_line(a: Answer) {
-    io::write_all(1, b": ");
-    io::print_decimal(1, answer::number(a));
-    io::write_all(1, b", address ");
-    io::print_decimal(1, answer::address(a));
-    io::write_all(1, b", interval ");
-    io::print_decimal(1, answer::place(a));
-    io::write_all(1, b"\n");
-}
-
-fn bytes_line(name: &[u8], bytes: &[u8]) {
-    io::write_all(1, name);
-    hexadecimal(bytes);
-    io::write_all(1, b"\n");
-}
-
-fn hexadecimal(bytes: &[u8]) {
-    let mut i: usize = 0;
-    while i < bytes.len() {
-        io::print_hex(1, wide(bytes[i]), 2);
-        i += 1;
-    }
-}
-
-fn wide(b: u8) -> u64 {
-    b as u64
+    shown::answer_line(a);
+    shown::bytes_line(b"  segment ", segment);
+    shown::bytes_line(b"  buffer  ", buffer);
 }

@@ -1,12 +1,12 @@
 -- The laws of descriptions: the test and the facts say the same; what follows of a segment's sizes.
 -- Assumes nothing.
-use mathlib.Core.Path.{_≡_, refl, sym, ap, _∙_}
+use mathlib.Core.Path.{_≡_, refl, sym, _∙_}
 use mathlib.Core.Bool.{Bool, true, false, not, _&&_, _||_, cond}
 use Prim.Native.Nat.{ℕ, zero, suc, _+_, _*_, _/_, _%_, _^_, _≤_, _<_}
 use native.Mathlib.Nat.{lt-of-not-le, suc-ne-zero, le-refl, mul-add, mul-le-mul}
 use native.Mathlib.Omega.{arith}
 use borrow.Author.Needs.{needs}
-use borrow.Author.Tests.{le-leb, eq-eqb, ne-eqb, not-true, not-false}
+use borrow.Author.Tests.{le-leb, eq-eqb, ne-eqb, not-false}
 use lib.Dec.{T, eqb, leb, leb→le, eqb→eq, eqb·suc-zero}
 use Rattle.segment.specs.declared.Description.{Description}
 use Rattle.segment.specs.Segment.{isSegment, Segment, intervalsOf, sizeOf, storedOf, lengthOf}
@@ -114,10 +114,6 @@ pub stored-fields : (d : Description) → (d .kind ≡ 0 → ⊥) → storedOf d
 unfolding storedOf
 stored-fields d n = rw (ne-eqb (d .kind) 0 n)
 
-pub intervals-plain : (d : Description) → Segment d → d .kind ≡ 0 → intervalsOf d ≡ 1
-unfolding intervalsOf
-intervals-plain d s e = ap (λ (k : ℕ). 2 ^ k) (s .plain (omega arith))
-
 module _ (d : Description) (s : Segment d) where
   intervals-cut : Cut (d .exponent) (d .block)
   intervals-cut = cut (d .exponent) (d .block) (s .exponent) (s .least) (s .eights)
@@ -149,6 +145,3 @@ module _ (d : Description) (s : Segment d) where
 -- ---- what a caller of `fit` knows
 pub described : (d : Description) (r : Bool) → r ≡ isSegment d → not r ≡ false → Segment d
 described d r e n = segment-facts d (rw (sym e ∙ not-false r n) tt)
-
-pub undescribed : (d : Description) (r : Bool) → r ≡ isSegment d → not r ≡ true → isSegment d ≡ false
-undescribed d r e n = sym e ∙ not-true r n

@@ -61,7 +61,7 @@ fn print_interval(
     let state = l.state;
     let at = lines::print_line(out, sheet.at, l);
     Sheet {
-        at: at,
+        at,
         lines: sheet.lines + 1,
         faults: sheet.faults + faulty(state),
         skipped: sheet.skipped + skips(state),

@@ -1,5 +1,4 @@
 // Runs the guards and the parity of document 01, 'Both sides of the line', and prints what comes of each.
-use answer::Answer;
 use segment::Description;
 
 fn main() {
@@ -56,34 +55,6 @@ fn parity() {
         &mut out,
     );
     io::write_all(1, b"parity of two members");
-    answer_line(a);
-    bytes_line(b"  parity  ", &out);
-}
-
-fn answer_line(a: Answer) {
-    io::write_all(1, b": ");
-    io::print_decimal(1, answer::number(a));
-    io::write_all(1, b", address ");
-    io::print_decimal(1, answer::address(a));
-    io::write_all(1, b", interval ");
-    io::print_decimal(1, answer::place(a));
-    io::write_all(1, b"\n");
-}
-
-fn bytes_line(name: &[u8], bytes: &[u8]) {
-    io::write_all(1, name);
-    hexadecimal(bytes);
-    io::write_all(1, b"\n");
-}
-
-fn hexadecimal(bytes: &[u8]) {
-    let mut i: usize = 0;
-    while i < bytes.len() {
-        io::print_hex(1, wide(bytes[i]), 2);
-        i += 1;
-    }
-}
-
-fn wide(b: u8) -> u64 {
-    b as u64
+    shown::answer_line(a);
+    shown::bytes_line(b"  parity  ", &out);
 }

@@ -29,7 +29,7 @@ pub fn read_at(s: &[u8], at: usize, width: usize) -> u64
     read(&s[at..end])
 }
 
-// The number in the two, four or eight bytes of `s` from `at` on.
+// The number in the two or four bytes of `s` from `at` on.
 pub fn read2(s: &[u8], at: usize) -> u16
     requires { ⌜ at + 2 ≤ length (now s) ⌝ }
     ensures { λ r. ⌜ r ≡ numberAt at 2 (now (s .entry)) ⌝ }
@@ -46,14 +46,6 @@ pub fn read4(s: &[u8], at: usize) -> u32
     read(&s[at..end]) as u32
 }
 
-pub fn read8(s: &[u8], at: usize) -> u64
-    requires { ⌜ at + 8 ≤ length (now s) ⌝ }
-    ensures { λ r. ⌜ r ≡ numberAt at 8 (now (s .entry)) ⌝ }
-{
-    let end = at + 8;
-    read(&s[at..end])
-}
-
 // Fills `d` with the low bytes of `n`, as many as it has.
 fn write(d: &mut [u8], n: u64)
     ensures { λ _. ⌜ now (d .exit) ≡ bytes (length (now (d .entry))) n ⌝ }
@@ -67,7 +59,7 @@ fn write(d: &mut [u8], n: u64)
     }
 }
 
-// Writes `n` to the two, four or eight bytes of `d` from `at` on.
+// Writes `n` to the two or four bytes of `d` from `at` on.
 pub fn write2(d: &mut [u8], at: usize, n: u16)
     requires { ⌜ at + 2 ≤ length (now d) ⌝ }
     ensures { λ _. ⌜ now (d .exit) ≡ put at (bytes 2 n) (now (d .entry)) ⌝ }
@@ -82,14 +74,6 @@ pub fn write4(d: &mut [u8], at: usize, n: u32)
 {
     let end = at + 4;
     write(&mut d[at..end], n as u64);
-}
-
-pub fn write8(d: &mut [u8], at: usize, n: u64)
-    requires { ⌜ at + 8 ≤ length (now d) ⌝ }
-    ensures { λ _. ⌜ now (d .exit) ≡ put at (bytes 8 n) (now (d .entry)) ⌝ }
-{
-    let end = at + 8;
-    write(&mut d[at..end], n);
 }
 
 // Makes `d` a copy of `s`, which is as long.

@@ -13,7 +13,7 @@ cast-t9 : tie.Need-cast-t9
 cast-t9 c = omega (arith, c .shared-slice-known3 .given 6)
 
 returns : tie.Need-returns
-returns c = described-made _ (c .before .before .before .read2 .ensures) (c .before .read8 .ensures) (c .read22 .ensures)
+returns c = described-made _ (c .before .before .before .read2 .ensures) (c .before .read-at .ensures) (c .read22 .ensures)
 
 pub described-by-spec : {M : Type 1} → statement M
 described-by-spec =

@@ -1,9 +1,8 @@
 -- `stripe::in_range`: below 1, above 16, or between.
 -- Assumes nothing.
-use mathlib.Core.Path.{_≡_, refl}
+use mathlib.Core.Path.{_≡_}
 use mathlib.Core.Bool.{true, false}
 use Prim.Native.Nat.{ℕ, _<_, _≤_}
-use native.Mathlib.Omega.{arith}
 use borrow.Author.Tests.{le-leb, lt-leb}
 use Rattle.stripe.specs.Stripe.{inRange}
 use Rattle.stripe.proofs.in_range.Statement.{statement}

@@ -3,8 +3,6 @@
 use mathlib.Core.Path.{_≡_, refl, ap, _∙_}
 use native.Mathlib.Nat.{zero-mul}
 use native.Mathlib.Omega.{arith}
-use lib.Dec.{T}
-use Rattle.segment.specs.Segment.{Segment}
 use Rattle.stripe.specs.Stripe.{stripeRules, inRange}
 use Rattle.stripe.proofs.Ladder.{all-most, parts-long, range-facts, passed}
 use Rattle.stripe.proofs.Fits.{make-stopped, make-unfit, make-good}

@@ -1,6 +1,6 @@
 -- `stripe::stripe_rules`: the description, the type, the shape, in this order.
 -- Assumes nothing.
-use mathlib.Core.Path.{_≡_, sym, _∙_}
+use mathlib.Core.Path.{_≡_, sym}
 use mathlib.Core.Bool.{Bool, true, false, not, true≢false}
 use borrow.Author.Tests.{not-false}
 use lib.Dec.{T}

@@ -1,10 +1,10 @@
--- `vectors::hexadecimal`: the index stays within the bytes.
+-- `shown::hexadecimal`: the index stays within the bytes.
 -- Assumes nothing.
 use Prim.Native.Nat.{_-_}
 use lib.ListN.{length}
 use borrow.Author.Needs.{needs}
-use Rattle.vectors.proofs.hexadecimal.Statement.{statement}
-use Rattle.vectors.proofs.hexadecimal.Tie as tie
+use Rattle.shown.proofs.hexadecimal.Statement.{statement}
+use Rattle.shown.proofs.hexadecimal.Tie as tie
 
 abbrev Inv-loop : tie.InvT-loop
 Inv-loop bytes i₀ i = Unit {0}
