@@ -14,11 +14,11 @@ described p b e w n ato = record { kind = p; block = b; exponent = e; first = w;
 
 -- a command's answer r, the numbers a and p in the places lent for them, and what is left of segment and buffer:
 -- "Numbers 8 to 10 also give the block's address and the interval's place in the transfer, from 0; all others give 0 and 0."
-pub record Executed (o : Outcome Lent) (r a p : ℕ) (l : Lent) : Type 0 where
+pub record Executed (o : Outcome Lent) (r a p : ℕ) (after : Lent) : Type 0 where
   pub answer : r ≡ numberOf (o .answer)
   pub address : a ≡ addressOf (o .answer)
   pub place : p ≡ placeOf (o .answer)
-  pub left : l ≡ o .left
+  pub left : after ≡ o .left
 
 -- a format choice's answer r, and the type t in the place lent for it: "Answer 0 comes with the type; a refusal comes with type 0."
 pub record Chosen (c : Choice) (r t : ℕ) : Type 0 where
