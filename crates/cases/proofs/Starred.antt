@@ -22,11 +22,11 @@ use Rattle.rules.specs.Rules.{columnsOf, applicationKnown, referenceKnown, firs
 use Rattle.rules.specs.Sides.{checkedOn}
 use Rattle.rules.specs.Inserted.{insertedApplication, insertedReference, marksOf}
 use Rattle.transfer.specs.Transfer.{blocksOf, judgedOn, judged, whole, handed, received}
-use Rattle.execute.specs.Execute.{overwritten, performed, executed}
+use Rattle.execute.specs.Execute.{overwritten, moved, performed, executed}
 use Rattle.parity.specs.Parity.{xorParts, parityOf}
 use Rattle.stripe.specs.Stripe.{stripeRules, inRange, made}
 use Rattle.cases.specs.Cases.{result, expected, vectors, up, down, parityCase, onSegments, cases}
 
 pub starred : map result cases ≡ map expected cases
-unfolding numberFrom number numberAt bytes put runs xors guard divide takeOff terms termsOf vectors up down isSegment intervalsOf sizeOf storedOf lengthOf descriptionRule lengthRule segmentRules offsetOf spanOf blocksFrom recognise fields decodeAs decode firstOf storedGuard storedApplication storedReference escapes dataOf fieldOf anyEscapes guardWrong applicationWrong referenceWrong judgePieces judgeInterval judgeIntervals judgeBlock judgeBlocks fieldBytes withField storedBlock storedBlocks typeRules codeRule checkRule rangeRule movedOf sizeRule bufferOf bufferRule refusal admitted columnsOf applicationKnown referenceKnown firstTag rulesOf startOf insertedApplication insertedReference marksOf checkedOn blocksOf whole judgedOn judged handed received overwritten performed executed xorParts parityOf stripeRules inRange made parityCase onSegments cases
+unfolding numberFrom number numberAt bytes put runs xors guard divide takeOff terms termsOf vectors up down isSegment intervalsOf sizeOf storedOf lengthOf descriptionRule lengthRule segmentRules offsetOf spanOf blocksFrom recognise fields decodeAs decode firstOf storedGuard storedApplication storedReference escapes dataOf fieldOf anyEscapes guardWrong applicationWrong referenceWrong judgePieces judgeInterval judgeIntervals judgeBlock judgeBlocks fieldBytes withField storedBlock storedBlocks typeRules codeRule checkRule rangeRule movedOf sizeRule bufferOf bufferRule refusal admitted columnsOf applicationKnown referenceKnown firstTag rulesOf startOf insertedApplication insertedReference marksOf checkedOn blocksOf whole judgedOn judged handed received overwritten moved performed executed xorParts parityOf stripeRules inRange made parityCase onSegments cases
 starred = refl

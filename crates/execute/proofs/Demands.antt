@@ -50,7 +50,7 @@ use Rattle.admission.proofs.Ready.{admitted-served, admitted-ready}
 use Rattle.execute.specs.Lent.{Lent, lent, lengthsOf}
 use Rattle.transfer.specs.Transfer.{blocksOf, judgedOn, judged, whole, handed, received}
 use Rattle.transfer.proofs.Shapes.{whole-code, whole-not, received-whole, judged-none, judged-all}
-use Rattle.execute.specs.Execute.{underCheck, overwritten, movedFor, performed, executedAs, executed}
+use Rattle.execute.specs.Execute.{underCheck, overwritten, movedFor, moved, performed, executedAs, executed}
 use Rattle.execute.specs.Compared.{Alike, Beside, asRead}
 use Rattle.execute.specs.Checked.{FirstWrong, AllRight, WrongInterval}
 use Rattle.execute.proofs.Wrong.{side-good, side-wrong, interval-verdict}
@@ -111,7 +111,7 @@ module _ (d : Description) (c : Command) (l m : Lent) (e : blocksOf d c (l .segm
       ap₂ orElse (judged-none Sent d c (l .buffer) none ∙ sym (judged-none Sent d c (m .buffer) none)) (ap (judgedOn Stored d c) e)
 
   performed-alike : (c .operation ≡ Write → ⊥) → Alike c (performed d c l) (performed d c m)
-  unfolding performed
+  unfolding performed moved
   performed-alike n =
       let same = judged-alike n in
       record {
@@ -139,7 +139,7 @@ module _ (d : Description) (command : List ℕ) (l : Lent) where
 
   -- "Any answer but 0 changes no lent byte": a refused READ leaves the buffer, a refused WRITE the segment
   pub refused-leaves-all : isGood (executed d command l .answer) ≡ false → executed d command l .left ≡ l
-  unfolding executed performed
+  unfolding executed performed moved
   refused-leaves-all = by (admitted d (lengthsOf l) command)
     where
       by : (x : Admitted) → isGood (executedAs x d l .answer) ≡ false → executedAs x d l .left ≡ l
@@ -173,21 +173,21 @@ module _ (d : Description) (command : List ℕ) (l : Lent) where
 
     -- "A READ or VERIFY never changes the segment."
     pub read-or-verify-leaves-segment : (c .operation ≡ Write → ⊥) → executed d command l .left .segment ≡ l .segment
-    unfolding performed
+    unfolding performed moved
     read-or-verify-leaves-segment n =
         served-outcome (λ o. o .left .segment ≡ l .segment) (λ a g. refl)
         (λ r. left-by (verdict d c l) d c l (λ x. x .segment ≡ l .segment) refl (c .operation) (segment-for (verdict d c l) d c l (c .operation) n))
 
     -- the buffer is a READ's answer alone
     pub write-or-verify-leaves-buffer : (c .operation ≡ Read → ⊥) → executed d command l .left .buffer ≡ l .buffer
-    unfolding performed
+    unfolding performed moved
     write-or-verify-leaves-buffer n =
         served-outcome (λ o. o .left .buffer ≡ l .buffer) (λ a g. refl)
         (λ r. left-by (verdict d c l) d c l (λ x. x .buffer ≡ l .buffer) refl (c .operation) (buffer-for (verdict d c l) d c l (c .operation) n))
 
     -- "On a good WRITE the transfer's own blocks of the segment are overwritten and no other"
     pub good-write-keeps-other-blocks : Beside d c (l .segment) (executed d command l .left .segment)
-    unfolding performed
+    unfolding performed moved
     good-write-keeps-other-blocks =
         served-outcome (λ o. Beside d c (l .segment) (o .left .segment)) (λ a g. beside-itself d c (l .segment))
         (λ r. left-by (verdict d c l) d c l (λ x. Beside d c (l .segment) (x .segment)) (beside-itself d c (l .segment)) (c .operation)
@@ -196,7 +196,7 @@ module _ (d : Description) (command : List ℕ) (l : Lent) where
     -- "received fields are stored as received"; with 000 they are inserted
     pub good-write-stores : c .operation ≡ Write → isGood (executed d command l .answer) ≡ true
         → Ready d c (lengthsOf l) × (blocksOf d c (executed d command l .left .segment) ≡ received d c (l .buffer))
-    unfolding performed
+    unfolding performed moved
     good-write-stores w =
         served-outcome
         (λ o. isGood (o .answer) ≡ true → Ready d c (lengthsOf l) × (blocksOf d c (o .left .segment) ≡ received d c (l .buffer)))
@@ -206,7 +206,7 @@ module _ (d : Description) (command : List ℕ) (l : Lent) where
     -- "A good READ fills its buffer with the transfer's blocks in order"
     pub good-read-hands-out : c .operation ≡ Read → isGood (executed d command l .answer) ≡ true
         → executed d command l .left .buffer ≡ handed d c (blocksOf d c (l .segment))
-    unfolding performed
+    unfolding performed moved
     good-read-hands-out w =
         served-outcome (λ o. isGood (o .answer) ≡ true → o .left .buffer ≡ handed d c (blocksOf d c (l .segment)))
         (λ a b g. absurd (true≢false (sym g ∙ b)))
@@ -261,7 +261,7 @@ module _ (d : Description) (command : List ℕ) (l : Lent) (c : Command)
   judgedSide side = judgedOn side d c (underCheck side d c l)
 
   answer-is : executed d command l .answer ≡ orElse (judgedSide Sent) (judgedSide Stored)
-  unfolding executed performed judged
+  unfolding executed performed moved judged
   answer-is = rw in-order refl
 
   right-side : (side : Side) → (judgedSide side ≡ answers.Good) ↔ AllRight side d c l
@@ -392,7 +392,7 @@ module _ (d : Description) (writing : List ℕ) (l : Lent) (reading out : List �
   was-stored = good-write-stores d writing l w writes is-write good-write
 
   write-judged : judgedOn Sent d w (l .buffer) ≡ answers.Good
-  unfolding executed performed judged
+  unfolding executed performed moved judged
   write-judged = orElse-good (judgedOn Sent d w (l .buffer)) _ .0 (good-is _ (rw write-went at good-write)) .0
 
   -- the blocks that were stored, judged as stored ones
@@ -417,7 +417,7 @@ module _ (d : Description) (writing : List ℕ) (l : Lent) (reading out : List �
           ∙ received-accepted d w (l .buffer) (w .length) (tag-small d w (bounded .tag)) (sym (judged-all Sent d w (l .buffer) n sends) ∙ write-judged)
 
   read-good : executed d reading then .answer ≡ answers.Good
-  unfolding executed performed judged
+  unfolding executed performed moved judged
   read-good =
       rw read-went
       (orElse-good (judgedOn Sent d (asRead w) out) _ .1 (

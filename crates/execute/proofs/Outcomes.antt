@@ -33,7 +33,7 @@ use Rattle.execute.specs.Lent.{Lent, lent, lengthsOf}
 use Rattle.transfer.specs.Transfer.{blocksOf, judged, handed, received}
 use Rattle.transfer.specs.Inner.{Shaped, Sided, Fitted}
 use Rattle.transfer.proofs.Shapes.{moved-span}
-use Rattle.execute.specs.Execute.{overwritten, movedFor, performed, executed}
+use Rattle.execute.specs.Execute.{overwritten, movedFor, moved, performed, executed}
 
 -- ---- what admission settled
 module _ {d : Description} {c : Command} {l : Lengths} (r : Ready d c l) where
@@ -46,8 +46,8 @@ module _ {d : Description} {c : Command} {l : Lengths} (r : Ready d c l) where
   pub shaped : Shaped d c
   shaped = record { described = r .described; few = short; end = omega (arith, r .to, r .described .end) }
 
-  pub within : (at w : ℕ) → at ≡ offsetOf d (c .address) → w ≡ spanOf d (c .length) → at + w ≤ l .segment
-  within at w e f = rw (e, f) (span-within d (c .address) (c .length) (l .segment) (r .whole) (r .from) (r .to))
+  pub within : (at end : ℕ) → at ≡ offsetOf d (c .address) → end ≡ at + spanOf d (c .length) → end ≤ l .segment
+  within at end e f = rw (f, e) (span-within d (c .address) (c .length) (l .segment) (r .whole) (r .from) (r .to))
 
   -- what is sent is whole blocks where it is checked, and the part of the segment always is
   pub sent : Sided Sent d c (l .buffer)
@@ -58,20 +58,43 @@ module _ {d : Description} {c : Command} {l : Lengths} (r : Ready d c l) where
       by Write e x = r .room ∙ room-moved d c (ap isVerify e) ∙ moved-span d c (r .described) (eqb-false (c .code) 0 (not-true _ x))
       by Verify e x = never x
 
-  pub part : (at w : ℕ) (segment : List ℕ) → length segment ≡ l .segment → at ≡ offsetOf d (c .address) → w ≡ spanOf d (c .length)
-      → length (take (at + w - at) (drop at segment)) ≡ spanOf d (c .length)
-  part at w segment m e f = part-length at w segment (rw m (within at w e f)) ∙ f
+  pub part : (at end : ℕ) (segment : List ℕ) → length segment ≡ l .segment → at ≡ offsetOf d (c .address) → end ≡ at + spanOf d (c .length)
+      → length (take (end - at) (drop at segment)) ≡ spanOf d (c .length)
+  part at end segment m e f =
+      rw f (part-length at (spanOf d (c .length)) segment (rw (m, ← f) (within at end e f)))
 
   pub fitted : isVerify (c .operation) ≡ false → Fitted d c (l .buffer)
   fitted v = record { room = r .room ∙ room-moved d c v; plain = r .plain }
 
 -- the part of the segment that is handed on is the transfer's blocks
-pub blocks-are : (d : Description) (c : Command) (at w : ℕ) (segment : List ℕ) → at ≡ offsetOf d (c .address) → w ≡ spanOf d (c .length)
-    → take (at + w - at) (drop at segment) ≡ blocksOf d c segment
+pub blocks-are : (d : Description) (c : Command) (at end : ℕ) (segment : List ℕ) → at ≡ offsetOf d (c .address) → end ≡ at + spanOf d (c .length)
+    → take (end - at) (drop at segment) ≡ blocksOf d c segment
 unfolding blocksOf blocksFrom
-blocks-are d c at w segment e f = let same : at + w - at ≡ w = omega arith in rw (same, e, f)
+blocks-are d c at end segment e f = let same : end - at ≡ spanOf d (c .length) = omega arith in rw (same, e)
 
--- ---- judged, and by the operation
+pub ends : (at w s : ℕ) → w ≡ s → at + w ≡ at + s
+ends at w s e = ap (λ (x : ℕ). at + x) e
+
+-- ---- by the operation
+module _ (d : Description) (c : Command) (segment buffer : List ℕ) where
+  by-operation : (o : Operation) → c .operation ≡ o → (left : Lent) → left ≡ movedFor o d c (lent segment buffer) → left ≡ moved d c (lent segment buffer)
+  unfolding moved
+  by-operation o f left m = m ∙ ap (λ (x : Operation). movedFor x d c (lent segment buffer)) (sym f)
+
+  pub read-moved : c .operation ≡ Read → (stored left : List ℕ) → stored ≡ blocksOf d c segment → left ≡ handed d c stored
+      → lent segment left ≡ moved d c (lent segment buffer)
+  read-moved o stored left s m = by-operation Read o _ (ap (lent segment) (m ∙ ap (handed d c) s))
+
+  pub write-moved : c .operation ≡ Write → (at : ℕ) (left : List ℕ) → at ≡ offsetOf d (c .address) → left ≡ put at (received d c buffer) segment
+      → lent left buffer ≡ moved d c (lent segment buffer)
+  unfolding overwritten
+  write-moved o at left f m =
+      by-operation Write o _ (ap (λ (x : List ℕ). lent x buffer) (m ∙ ap (λ (x : ℕ). put x (received d c buffer) segment) f))
+
+  pub verify-moved : c .operation ≡ Verify → lent segment buffer ≡ moved d c (lent segment buffer)
+  verify-moved o = by-operation Verify o _ refl
+
+-- ---- judged, and then moved
 module _ (d : Description) (c : Command) (segment buffer stored : List ℕ) (a : Answer) (g : Bool) (s : stored ≡ blocksOf d c segment)
     (e : a ≡ judged d c buffer stored) (t : g ≡ isGood a) where
   judged-is : a ≡ judged d c buffer (blocksOf d c segment)
@@ -81,27 +104,9 @@ module _ (d : Description) (c : Command) (segment buffer stored : List ℕ) (a :
   unfolding performed
   refused-performed n = rw (← judged-is, sym t ∙ not-true g n)
 
-  moved-performed : not g ≡ false → outcome a (movedFor (c .operation) d c (lent segment buffer)) ≡ performed d c (lent segment buffer)
+  pub good-performed : not g ≡ false → (left : Lent) → left ≡ moved d c (lent segment buffer) → outcome a left ≡ performed d c (lent segment buffer)
   unfolding performed
-  moved-performed n = rw (← judged-is, sym t ∙ not-false g n)
-
-  good-performed : not g ≡ false → (o : Operation) → c .operation ≡ o → (left : Lent) → left ≡ movedFor o d c (lent segment buffer)
-      → outcome a left ≡ performed d c (lent segment buffer)
-  good-performed n o f left m =
-      ap (outcome a) (m ∙ ap (λ (x : Operation). movedFor x d c (lent segment buffer)) (sym f)) ∙ moved-performed n
-
-  pub read-performed : not g ≡ false → c .operation ≡ Read → (left : List ℕ) → left ≡ handed d c stored
-      → outcome a (lent segment left) ≡ performed d c (lent segment buffer)
-  read-performed n o left m = good-performed n Read o _ (ap (lent segment) (m ∙ ap (handed d c) s))
-
-  pub write-performed : not g ≡ false → c .operation ≡ Write → (at : ℕ) → at ≡ offsetOf d (c .address) → (left : List ℕ)
-      → left ≡ put at (received d c buffer) segment → outcome a (lent left buffer) ≡ performed d c (lent segment buffer)
-  unfolding overwritten
-  write-performed n o at f left m =
-      good-performed n Write o _ (ap (λ (x : List ℕ). lent x buffer) (m ∙ ap (λ (x : ℕ). put x (received d c buffer) segment) f))
-
-  pub verify-performed : not g ≡ false → c .operation ≡ Verify → outcome a (lent segment buffer) ≡ performed d c (lent segment buffer)
-  verify-performed n o = good-performed n Verify o _ refl
+  good-performed n left m = rw (← judged-is, sym t ∙ not-false g n) (ap (outcome a) m)
 
 -- ---- by what admission decided
 module _ (d : Description) (command : List ℕ) (l : Lent) where

@@ -31,9 +31,12 @@ movedFor Read d c l = lent (l .segment) (handed d c (blocksOf d c (l .segment)))
 movedFor Write d c l = lent (overwritten d c l) (l .buffer)
 movedFor Verify d c l = l
 
+unfoldable pub moved : Description → Command → Lent → Lent
+moved d c l = movedFor (c .operation) d c l
+
 -- a command that goes on: judged, and only then moved
 unfoldable pub performed : Description → Command → Lent → Outcome Lent
-performed d c l = leaving (judged d c (underCheck Sent d c l) (underCheck Stored d c l)) l (movedFor (c .operation) d c l)
+performed d c l = leaving (judged d c (underCheck Sent d c l) (underCheck Stored d c l)) l (moved d c l)
 
 abbrev pub executedAs : Admitted → Description → Lent → Outcome Lent
 executedAs (Refused a) d l = outcome a l

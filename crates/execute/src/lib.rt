@@ -1,9 +1,12 @@
 // From a command's bytes to its answer: admission, then judging, and only then moving.
 ghost use mathlib.Core.Path.{_≡_};
+ghost use Prim.Native.Nat.{_+_};
+ghost use Rattle.guard.specs.Table.{Right};
+ghost use Rattle.segment.specs.Places.{offsetOf, spanOf};
 ghost use Rattle.answer.specs.Outcome.{outcome};
 ghost use Rattle.admission.specs.Ready.{Ready};
 ghost use Rattle.execute.specs.Lent.{lent, lengthsOf};
-ghost use Rattle.execute.specs.Execute.{performed, executed};
+ghost use Rattle.execute.specs.Execute.{moved, performed, executed};
 use admission::Admitted;
 use answer::Answer;
 use command::Command;
@@ -11,7 +14,31 @@ use command::Operation;
 use refusal::Lengths;
 use segment::Description;
 
-// What an admitted command does. The table is made once and lent to all below.
+// Moves the blocks of a transfer that is good: those of the segment lie from `at` to `end`.
+fn move_blocks(
+    t: &[u16; 256],
+    d: Description,
+    c: Command,
+    segment: &mut [u8],
+    at: usize,
+    end: usize,
+    buffer: &mut [u8],
+)
+    requires { ⌜ Right (now t) ⌝ }
+    requires { ⌜ Ready d c (lengthsOf (lent (now segment) (now buffer))) ⌝ }
+    requires { ⌜ (at ≡ offsetOf d (c .address)) × (end ≡ at + spanOf d (c .length)) ⌝ }
+    ensures { λ _. ⌜ lent (now (segment .exit)) (now (buffer .exit)) ≡ moved d c (lent (now (segment .entry)) (now (buffer .entry))) ⌝ }
+{
+    let o = c.operation;
+    match o {
+        Operation::Read => transfer::hand_out(d, c, &segment[at..end], buffer),
+        Operation::Write => transfer::store(t, d, c, segment, at, buffer),
+        Operation::Verify => {}
+    }
+}
+
+// What an admitted command does: both sides are judged, and only then a byte moves. A side that is not checked is good, whatever
+// stands there, as the buffer of a READ. The table is made once and lent to all below.
 fn perform(d: Description, c: Command, segment: &mut [u8], buffer: &mut [u8]) -> Answer
     requires { ⌜ Ready d c (lengthsOf (lent (now segment) (now buffer))) ⌝ }
     ensures { λ a. ⌜ outcome a (lent (now (segment .exit)) (now (buffer .exit))) ≡ performed d c (lent (now (segment .entry)) (now (buffer .entry))) ⌝ }
@@ -23,12 +50,7 @@ fn perform(d: Description, c: Command, segment: &mut [u8], buffer: &mut [u8]) ->
     if !answer::is_good(a) {
         return a;
     }
-    let o = c.operation;
-    match o {
-        Operation::Read => transfer::hand_out(d, c, &segment[at..end], buffer),
-        Operation::Write => transfer::store(&t, d, c, segment, at, buffer),
-        Operation::Verify => {}
-    }
+    move_blocks(&t, d, c, segment, at, end, buffer);
     a
 }
 
