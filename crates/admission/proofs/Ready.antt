@@ -7,10 +7,8 @@ use Prim.Native.Nat.{ℕ}
 use native.Mathlib.Omega.{arith}
 use borrow.Author.Tests.{eqb-true, not-false}
 use lib.Dec.{eqb}
-use Rattle.words.proofs.Choice.{never}
 use Rattle.answer.specs.Answer.{isGood}
 use Rattle.answer.specs.declared.Answer.{Answer}
-use Rattle.answer.specs.declared.Answer.the-variants as answers
 use Rattle.answer.specs.declared.Reason.the-variants as reasons
 use Rattle.answer.proofs.Ladder.{both-good, not-refused}
 use Rattle.segment.specs.declared.Description.{Description}
@@ -23,20 +21,17 @@ use Rattle.command.specs.declared.Command.{Command}
 use Rattle.command.specs.declared.Decoded.{Decoded}
 use Rattle.command.specs.declared.Decoded.the-variants as decoded
 use Rattle.refusal.specs.declared.Lengths.{Lengths}
-use Rattle.refusal.specs.Refusal.{typeRules, codeRule, checkRule, sizeRule, bufferOf, bufferRule, refusal}
+use Rattle.refusal.specs.Refusal.{longRule, otherRule, plainRule, typeRules, codeRule, checkRule, sizeRule, bufferOf, bufferRule, refusal}
 use Rattle.admission.specs.declared.Admitted.{Admitted}
 use Rattle.admission.specs.declared.Admitted.the-variants.{Refused, Go}
 use Rattle.admission.specs.Admission.{admitDecoded, admitted}
 use Rattle.admission.specs.Ready.{Ready}
 
-zero-code : (l e : Bool) → isGood (cond (l && true) (answers.Refused reasons.OperationInvalid) (cond (not l && (false && not e)) (answers.Refused reasons.OperationInvalid) (cond (true && not e) (answers.Refused reasons.FieldInvalid) answers.Good))) ≡ true → e ≡ true
-zero-code true e g = never g
-zero-code false true g = refl
-zero-code false false g = never g
-
 plain-facts : (d : Description) (c : Command) → isGood (typeRules d c) ≡ true → d .kind ≡ 0 → c .code ≡ 0
-unfolding typeRules
-plain-facts d c e k = eqb-true (c .code) 0 (zero-code (c .long) (eqb (c .code) 0) (rw k at e))
+unfolding typeRules plainRule
+plain-facts d c e k =
+    let last = both-good (otherRule d c) (plainRule d c) (both-good (longRule d c) _ e .1) .1 in
+    eqb-true (c .code) 0 (not-false (eqb (c .code) 0) (rw k at (not-refused (eqb (d .kind) 0 && not (eqb (c .code) 0)) reasons.FieldInvalid last)))
 
 buffer-facts : (d : Description) (c : Command) (l : Lengths) → isGood (bufferRule d c l) ≡ true → l .buffer ≡ bufferOf d c
 unfolding bufferRule

@@ -1,4 +1,4 @@
--- The laws of user data taken out: its length, its bytes, and what it depends on. Each follows from the same law of pieces.
+-- The law of user data taken out: its length.
 -- Assumes nothing.
 use mathlib.Core.Path.{_≡_}
 use mathlib.Core.List.{List}
@@ -19,6 +19,3 @@ user-data-length size k s h =
     0
     s
     h
-
--- ---- bytes
--- ---- what lies behind the intervals' own bytes does not count

@@ -1,4 +1,4 @@
--- Laws of what is made piece by piece from a list: its length, its bytes, what it depends on, and how it is read back.
+-- Laws of what is made piece by piece from a list: its length, what it depends on, and how it is read back.
 -- Assumes nothing.
 use mathlib.Core.Path.{_≡_, refl, sym, ap, ap₂, _∙_}
 use mathlib.Core.List.{List, [], _∷_, _++_, append-assoc}

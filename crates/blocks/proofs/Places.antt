@@ -1,4 +1,4 @@
--- Laws on what was put at a place of a list: before it, behind it and there; of bytes, that they stay bytes.
+-- Laws on what was put at a place of a list: before it, behind it and there.
 -- Assumes nothing.
 use mathlib.Core.Path.{_≡_, sym, ap, _∙_}
 use mathlib.Core.List.{List, _++_, append-assoc, append-nil}

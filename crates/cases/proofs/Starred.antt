@@ -16,7 +16,7 @@ use Rattle.interval.specs.Interval.{escapes, anyEscapes, guardWrong, applicatio
 use Rattle.judge.specs.FirstOf.{firstOf}
 use Rattle.judge.specs.Judge.{judgeIntervals, judgeBlock, judgeBlocks}
 use Rattle.insertion.specs.Insertion.{withField, storedBlock, storedBlocks}
-use Rattle.refusal.specs.Refusal.{typeRules, codeRule, checkRule, movedOf, sizeRule, bufferOf, bufferRule, refusal}
+use Rattle.refusal.specs.Refusal.{longRule, otherRule, plainRule, typeRules, codeRule, checkRule, movedOf, sizeRule, bufferOf, bufferRule, refusal}
 use Rattle.admission.specs.Admission.{admitted}
 use Rattle.rules.specs.Rules.{columnsOf, applicationKnown, referenceKnown, firstTag, rulesOf, startOf}
 use Rattle.rules.specs.Sides.{checkedOn}
@@ -28,5 +28,5 @@ use Rattle.stripe.specs.Stripe.{stripeRules, inRange, made}
 use Rattle.cases.specs.Cases.{result, expected, vectors, up, down, parityCase, onSegments, cases}
 
 pub starred : map result cases ≡ map expected cases
-unfolding numberFrom number numberAt bytes put runs xors guard divide takeOff terms termsOf vectors up down isSegment intervalsOf sizeOf storedOf lengthOf descriptionRule lengthRule segmentRules offsetOf spanOf blocksFrom recognise fields decodeAs decode firstOf storedGuard storedApplication storedReference escapes dataOf fieldOf anyEscapes guardWrong applicationWrong referenceWrong judgePieces judgeInterval judgeIntervals judgeBlock judgeBlocks fieldBytes withField storedBlock storedBlocks typeRules codeRule checkRule rangeRule movedOf sizeRule bufferOf bufferRule refusal admitted columnsOf applicationKnown referenceKnown firstTag rulesOf startOf insertedApplication insertedReference marksOf checkedOn blocksOf whole judgedOn judged handed received overwritten moved performed executed xorParts parityOf stripeRules inRange made parityCase onSegments cases
+unfolding numberFrom number numberAt bytes put runs xors guard divide takeOff terms termsOf vectors up down isSegment intervalsOf sizeOf storedOf lengthOf descriptionRule lengthRule segmentRules offsetOf spanOf blocksFrom recognise fields decodeAs decode firstOf storedGuard storedApplication storedReference escapes dataOf fieldOf anyEscapes guardWrong applicationWrong referenceWrong judgePieces judgeInterval judgeIntervals judgeBlock judgeBlocks fieldBytes withField storedBlock storedBlocks longRule otherRule plainRule typeRules codeRule checkRule rangeRule movedOf sizeRule bufferOf bufferRule refusal admitted columnsOf applicationKnown referenceKnown firstTag rulesOf startOf insertedApplication insertedReference marksOf checkedOn blocksOf whole judgedOn judged handed received overwritten moved performed executed xorParts parityOf stripeRules inRange made parityCase onSegments cases
 starred = refl

@@ -1,4 +1,4 @@
--- "001 .. yes yes yes yes", "A field is checked only where its value is known": code 001 of a 16-byte command.
+-- Code 001 of a 16-byte command: what asks for blocks without a command's bytes asks like this.
 use Prim.Native.Nat.{ℕ}
 use mathlib.Core.Bool.{false}
 use Rattle.command.specs.declared.Operation.{Operation}

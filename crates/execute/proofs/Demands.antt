@@ -41,7 +41,7 @@ use Rattle.rules.specs.Intervals.{placeAt}
 use Rattle.rules.proofs.Laws.{checked-none, checked-plain}
 use Rattle.rules.proofs.Places.{tag-small}
 use Rattle.refusal.specs.declared.Lengths.{Lengths}
-use Rattle.refusal.specs.Refusal.{typeRules, codeRule, checkRule, sizeRule, isVerify, movedOf, bufferOf, bufferRule, refusal}
+use Rattle.refusal.specs.Refusal.{longRule, otherRule, plainRule, typeRules, codeRule, checkRule, sizeRule, isVerify, movedOf, bufferOf, bufferRule, refusal}
 use Rattle.admission.specs.declared.Admitted.{Admitted}
 use Rattle.admission.specs.declared.Admitted.the-variants.{Refused, Go}
 use Rattle.admission.specs.Admission.{admitted}
@@ -52,7 +52,7 @@ use Rattle.transfer.specs.Transfer.{blocksOf, judgedOn, judged, whole, handed, 
 use Rattle.transfer.proofs.Shapes.{whole-code, whole-not, received-whole, judged-none, judged-all}
 use Rattle.execute.specs.Execute.{underCheck, overwritten, movedFor, moved, performed, executedAs, executed}
 use Rattle.execute.specs.Compared.{Alike, Beside, asRead}
-use Rattle.execute.specs.Checked.{FirstWrong, AllRight, WrongInterval}
+use Rattle.execute.specs.Checked.{FirstNamed, AllRight, WrongInterval}
 use Rattle.execute.proofs.Wrong.{side-good, side-wrong, interval-verdict}
 use Rattle.execute.proofs.Accepted.{inserted-accepted, received-accepted}
 use Rattle.execute.proofs.InOrder.{not-in-order-names-no-interval}
@@ -269,18 +269,20 @@ module _ (d : Description) (command : List ℕ) (l : Lent) (c : Command)
 
   -- "a transfer with no wrong interval is good", and no other is
   pub good-exactly-when-all-right : (executed d command l .answer ≡ answers.Good) ↔ ((side : Side) → AllRight side d c l)
-  good-exactly-when-all-right = rw answer-is (λ e. each (orElse-good (judgedSide Sent) (judgedSide Stored) .0 e), λ f. orElse-good (judgedSide Sent) (judgedSide Stored) .1 (right-side Sent .1 (f Sent), right-side Stored .1 (f Stored)))
+  good-exactly-when-all-right =
+      let both = orElse-good (judgedSide Sent) (judgedSide Stored) in
+      rw answer-is (λ e. each (both .0 e), λ f. both .1 (right-side Sent .1 (f Sent), right-side Stored .1 (f Stored)))
     where
       each : (judgedSide Sent ≡ answers.Good) × (judgedSide Stored ≡ answers.Good) → (side : Side) → AllRight side d c l
       each two Sent = right-side Sent .0 (two .0)
       each two Stored = right-side Stored .0 (two .1)
 
   -- 8, 9 or 10 with the first wrong interval's address and place: all before it are right
-  pub refused-names-the-first-wrong : isGood (executed d command l .answer) ≡ false → FirstWrong d c l (executed d command l .answer)
+  pub refused-names-the-first-wrong : isGood (executed d command l .answer) ≡ false → FirstNamed d c l (executed d command l .answer)
   refused-names-the-first-wrong = rw answer-is (λ w. by w (good-or (judgedSide Sent)))
     where
       by : isGood (orElse (judgedSide Sent) (judgedSide Stored)) ≡ false → (judgedSide Sent ≡ answers.Good) ⊎ (isGood (judgedSide Sent) ≡ false)
-          → FirstWrong d c l (orElse (judgedSide Sent) (judgedSide Stored))
+          → FirstNamed d c l (orElse (judgedSide Sent) (judgedSide Stored))
       by w (inl g) =
           rw g
           (record {
@@ -356,7 +358,7 @@ module _ (d : Description) (command : List ℕ) (l : Lent) (bytes : Bytes comman
 -- ---- a READ that asks as a good WRITE asked is good
 
 refusal-same : (d : Description) (c : Command) (l : Lengths) → isVerify (c .operation) ≡ false → refusal d (asRead c) l ≡ refusal d c l
-unfolding refusal typeRules codeRule checkRule sizeRule movedOf bufferRule bufferOf
+unfolding refusal typeRules longRule otherRule plainRule codeRule checkRule sizeRule movedOf bufferRule bufferOf
 refusal-same d c l v = rw v
 
 passed : (s g g′ : Bool) (x r r′ : Answer) (c k : Command) → g′ ≡ g → cond s (cond g (Go c) (Refused r)) (Refused x) ≡ Go c

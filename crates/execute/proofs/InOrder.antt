@@ -19,7 +19,7 @@ use Rattle.command.specs.declared.Decoded.{Decoded}
 use Rattle.command.specs.declared.Decoded.the-variants as decoded
 use Rattle.command.specs.Command.{decode}
 use Rattle.refusal.specs.declared.Lengths.{Lengths}
-use Rattle.refusal.specs.Refusal.{typeRules, codeRule, checkRule, movedOf, sizeRule, bufferOf, bufferRule, refusal}
+use Rattle.refusal.specs.Refusal.{longRule, otherRule, plainRule, typeRules, codeRule, checkRule, movedOf, sizeRule, bufferOf, bufferRule, refusal}
 use Rattle.admission.specs.declared.Admitted.{Admitted}
 use Rattle.admission.specs.declared.Admitted.the-variants.{Refused, Go}
 use Rattle.admission.specs.Admission.{admitDecoded, admitted}
@@ -47,10 +47,10 @@ segment-other d n =
     (rule-other (not (eqb n (lengthOf d))) reasons.SegmentLengthWrong)
 
 types-other : (d : Description) (c : Command) → Other (typeRules d c)
-unfolding typeRules
+unfolding typeRules longRule otherRule plainRule
 types-other d c =
-    pick Other (c .long && not (eqb (d .kind) 2)) _ _ refl
-    (pick Other (not (c .long) && (eqb (d .kind) 2 && not (eqb (c .code) 0))) _ _ refl
+    or-else (longRule d c) _ (rule-other (c .long && not (eqb (d .kind) 2)) reasons.OperationInvalid)
+    (or-else (otherRule d c) (plainRule d c) (rule-other (not (c .long) && (eqb (d .kind) 2 && not (eqb (c .code) 0))) reasons.OperationInvalid)
     (rule-other (eqb (d .kind) 0 && not (eqb (c .code) 0)) reasons.FieldInvalid))
 
 refusal-other : (d : Description) (c : Command) (l : Lengths) → Other (refusal d c l)

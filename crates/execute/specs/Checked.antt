@@ -49,7 +49,7 @@ AllRight side d c l =
     (j i : ℕ) → j < checkedOn side d c → i < intervalsOf d → verdictAt side d c (underCheck side d c l) j i ≡ answers.Good
 
 -- "the first such interval is named": of what is sent, else of what is stored
-pub record FirstWrong (d : Description) (c : Command) (l : Lent) (a : Answer) : Type 0 where
+pub record FirstNamed (d : Description) (c : Command) (l : Lent) (a : Answer) : Type 0 where
   pub side : Side
   pub sent-right : side ≡ Stored → AllRight Sent d c l
   pub first : FirstWrongInterval side d c (underCheck side d c l) a

@@ -1,4 +1,4 @@
--- The laws of stored blocks: their lengths, their bytes, and that what was stored reads back. Each follows from the same law of pieces.
+-- The laws of stored blocks: their lengths, what they depend on, and that what was stored reads back. Each follows from the same law of pieces.
 -- Assumes nothing.
 use mathlib.Core.Path.{_≡_, ap, ap₂, _∙_}
 use mathlib.Core.List.{List, [], _++_, append-nil}
@@ -36,7 +36,6 @@ pub blocks-length : (size n k : ℕ) (m : Marks) (s : List ℕ) → k * (n * siz
 unfolding storedBlocks
 blocks-length size n k m s h = runs-length (storedBlock size n) (later n) (n * size) (n * (size + 8)) (block-length size n) k m s h
 
--- ---- bytes
 -- ---- what lies behind the intervals' own bytes does not count
 pub interval-behind : (size : ℕ) (m : Marks) (s r : List ℕ) → size ≤ length s → withField size m (s ++ r) ≡ withField size m s
 unfolding withField

@@ -1,4 +1,4 @@
--- Blocks and runs of blocks: their parts, the escape, what they can depend on, and what is not checked at all.
+-- Blocks and runs of blocks: their parts, the escape, what they can depend on, and runs in two pieces.
 -- Assumes nothing.
 use mathlib.Core.Path.{_≡_, refl, sym, ap₂, _∙_}
 use mathlib.Core.Bool.{Bool, true, false, cond}

@@ -25,7 +25,7 @@ pub record Chosen (c : Choice) (r t : ℕ) : Type 0 where
   pub answer : r ≡ numberOf (c .answer)
   pub kind : t ≡ c .kind
 
--- the answer r to any other call on lent bytes, and what they then hold
+-- the answer r to a call that is lent one list to write, and what it then holds
 pub record Answered (o : Outcome (List ℕ)) (r : ℕ) (l : List ℕ) : Type 0 where
   pub answer : r ≡ numberOf (o .answer)
   pub left : l ≡ o .left

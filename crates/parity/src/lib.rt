@@ -1,4 +1,4 @@
-// The exclusive or of parts: made, a lost one restored, corrected.
+// The exclusive or of parts: made, a lost one rebuilt, corrected.
 ghost use mathlib.Core.Path.{_≡_};
 ghost use Prim.Native.Nat.{_+_, _*_, _≤_, _<_};
 ghost use lib.ListN.{length, take, drop};

@@ -1,13 +1,13 @@
 -- Each rule on a command's fields from the facts that decide it.
 -- Assumes nothing.
 use mathlib.Core.Path.{_≡_, refl}
-use mathlib.Core.Bool.{Bool, true, false, not, _&&_, cond}
+use mathlib.Core.Bool.{Bool, true, false, not, _&&_}
 use Prim.Native.Nat.{_*_, _≤_, _<_}
 use native.Mathlib.Nat.{mul-le-mul}
 use native.Mathlib.Omega.{arith}
 use borrow.Author.Tests.{lt-ltb, le-ltb, eq-eqb, ne-eqb}
 use lib.Dec.{eqb}
-use Rattle.answer.specs.Answer.{isGood}
+use Rattle.answer.specs.Answer.{isGood, orElse, refusedIf}
 use Rattle.answer.specs.declared.Answer.{Answer}
 use Rattle.answer.specs.declared.Answer.the-variants as answers
 use Rattle.answer.specs.declared.Reason.the-variants as reasons
@@ -19,38 +19,38 @@ use Rattle.segment.proofs.Laws.{sizes}
 use Rattle.segment.proofs.Places.{range-facts}
 use Rattle.command.specs.declared.Command.{Command}
 use Rattle.refusal.specs.declared.Lengths.{Lengths}
-use Rattle.refusal.specs.Refusal.{typeRules, codeRule, isVerify, checkRule, movedOf, sizeRule, bufferOf, bufferRule}
+use Rattle.refusal.specs.Refusal.{longRule, otherRule, plainRule, typeRules, codeRule, isVerify, checkRule, movedOf, sizeRule, bufferOf, bufferRule}
 
 module _ (d : Description) (c : Command) where
   -- ---- the type rules
   pub long-two : c .long ≡ true → d .kind ≡ 2 → typeRules d c ≡ answers.Good
-  unfolding typeRules
+  unfolding typeRules longRule otherRule plainRule
   long-two l k = rw (l, k)
 
   pub long-other : c .long ≡ true → (d .kind ≡ 2 → ⊥) → typeRules d c ≡ (answers.Refused reasons.OperationInvalid)
-  unfolding typeRules
+  unfolding typeRules longRule otherRule plainRule
   long-other l k = rw (l, ne-eqb (d .kind) 2 k)
 
   pub short-two : c .long ≡ false → d .kind ≡ 2 → (c .code ≡ 0 → ⊥) → typeRules d c ≡ (answers.Refused reasons.OperationInvalid)
-  unfolding typeRules
+  unfolding typeRules longRule otherRule plainRule
   short-two l k n = rw (l, k, ne-eqb (c .code) 0 n)
 
   pub short-zero : c .long ≡ false → c .code ≡ 0 → typeRules d c ≡ answers.Good
-  unfolding typeRules
+  unfolding typeRules longRule otherRule plainRule
   short-zero l z = rw (l, eq-eqb (c .code) 0 z) (none (eqb (d .kind) 2) (eqb (d .kind) 0))
     where
-      none : (a b : Bool) → cond (a && false) (answers.Refused reasons.OperationInvalid) (cond (b && false) (answers.Refused reasons.FieldInvalid) answers.Good) ≡ answers.Good
+      none : (a b : Bool) → orElse (refusedIf (a && false) reasons.OperationInvalid) (refusedIf (b && false) reasons.FieldInvalid) ≡ answers.Good
       none true true = refl
       none true false = refl
       none false true = refl
       none false false = refl
 
   pub plain-code : c .long ≡ false → d .kind ≡ 0 → (c .code ≡ 0 → ⊥) → typeRules d c ≡ (answers.Refused reasons.FieldInvalid)
-  unfolding typeRules
+  unfolding typeRules longRule otherRule plainRule
   plain-code l k n = rw (l, k, ne-eqb (c .code) 0 n)
 
   pub short-other : c .long ≡ false → (d .kind ≡ 2 → ⊥) → (d .kind ≡ 0 → ⊥) → typeRules d c ≡ answers.Good
-  unfolding typeRules
+  unfolding typeRules longRule otherRule plainRule
   short-other l k n = rw (l, ne-eqb (d .kind) 2 k, ne-eqb (d .kind) 0 n)
 
   -- ---- the bytes moved

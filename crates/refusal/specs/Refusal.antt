@@ -4,7 +4,6 @@ use mathlib.Core.Bool.{Bool, true, false, not, _&&_, cond}
 use lib.Dec.{eqb, ltb}
 use Rattle.answer.specs.Answer.{orElse, refusedIf}
 use Rattle.answer.specs.declared.Answer.{Answer}
-use Rattle.answer.specs.declared.Answer.the-variants as answers
 use Rattle.answer.specs.declared.Reason.the-variants as reasons
 use Rattle.segment.specs.declared.Description.{Description}
 use Rattle.segment.specs.Segment.{storedOf}
@@ -14,13 +13,21 @@ use Rattle.command.specs.declared.Operation.{Operation}
 use Rattle.command.specs.declared.Operation.the-variants.{Read, Write, Verify}
 use Rattle.refusal.specs.declared.Lengths.{Lengths}
 
--- "types 0, 1 and 3 answer 5 to every 32-byte command. Type 2 answers 5 to other commands with a non-zero code. Type 0 then
--- answers 6 to a non-zero code."
+-- "types 0, 1 and 3 answer 5 to every 32-byte command."
+unfoldable pub longRule : Description → Command → Answer
+longRule d c = refusedIf (c .long && not (eqb (d .kind) 2)) reasons.OperationInvalid
+
+-- "Type 2 answers 5 to other commands with a non-zero code."
+unfoldable pub otherRule : Description → Command → Answer
+otherRule d c = refusedIf (not (c .long) && (eqb (d .kind) 2 && not (eqb (c .code) 0))) reasons.OperationInvalid
+
+-- "Type 0 then answers 6 to a non-zero code."
+unfoldable pub plainRule : Description → Command → Answer
+plainRule d c = refusedIf (eqb (d .kind) 0 && not (eqb (c .code) 0)) reasons.FieldInvalid
+
+-- "type rules"
 unfoldable pub typeRules : Description → Command → Answer
-typeRules d c =
-    cond (c .long && not (eqb (d .kind) 2)) (answers.Refused reasons.OperationInvalid)
-    (cond (not (c .long) && (eqb (d .kind) 2 && not (eqb (c .code) 0))) (answers.Refused reasons.OperationInvalid)
-    (cond (eqb (d .kind) 0 && not (eqb (c .code) 0)) (answers.Refused reasons.FieldInvalid) answers.Good))
+typeRules d c = orElse (longRule d c) (orElse (otherRule d c) (plainRule d c))
 
 -- "protect code 110 or 111 6"
 unfoldable pub codeRule : Command → Answer

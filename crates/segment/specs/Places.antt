@@ -26,8 +26,8 @@ spanOf d count = count * storedOf d
 unfoldable pub blocksFrom : Description → ℕ → ℕ → List ℕ → List ℕ
 blocksFrom d address count segment = take (spanOf d count) (drop (offsetOf d address) segment)
 
--- "A block has n = 2^e intervals of B/n data bytes. For types 1 to 3 each is followed by eight bytes": the bytes from block j
--- on, and from its interval i on
+-- of types 1 to 3, "A block has n = 2^e intervals of B/n data bytes. For types 1 to 3 each is followed by eight bytes": the bytes
+-- from block j on, and from its interval i on
 abbrev pub blockAt : Description → List ℕ → ℕ → List ℕ
 blockAt d s j = drop (j * (intervalsOf d * (sizeOf d + 8))) s
 

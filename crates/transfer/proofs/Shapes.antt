@@ -1,4 +1,4 @@
--- The sizes of a transfer: all that is multiplied is multiplied here.
+-- The shape of a transfer: its blocks and its buffer by intervals, what is judged of a side, what is moved.
 -- Assumes nothing.
 use mathlib.Core.Path.{_≡_, refl, sym, ap, _∙_}
 use mathlib.Core.Bool.{Bool, true, false, not, _||_, cond}

@@ -1,6 +1,6 @@
 -- `execute::move_blocks`: each operation on the transfer's own blocks.
 -- Assumes nothing.
-use mathlib.Core.Path.{_≡_, refl, ap}
+use mathlib.Core.Path.{refl, ap}
 use native.Mathlib.Omega.{arith}
 use Rattle.refusal.specs.Refusal.{isVerify}
 use Rattle.execute.proofs.Outcomes.{within, shaped, part, fitted, blocks-are, read-moved, write-moved, verify-moved}

@@ -30,7 +30,7 @@ judge-requires c κs =
 returns : tie.Need-returns
 returns c =
     let judge = c .before .before in
-    let span = judge .before .before .before .before .before in
+    let span = c .before .before .before .before .before .before .before in
     refused-performed _ _ _ _ _ _ _ (blocks-are _ _ _ _ _ (span .before .offset .ensures) (ends _ _ _ (span .span .ensures))) (judge .judge .ensures) (c .before .is-good .ensures) (c .if1 .taken)
 
 move-blocks-requires : tie.Need-move-blocks-requires
@@ -42,7 +42,7 @@ returns-2 : tie.Need-returns-2
 returns-2 c =
     let good = c .before .before .before .before .before .before .before .before in
     let judge = good .before .before in
-    let span = judge .before .before .before .before .before in
+    let span = good .before .before .before .before .before .before .before in
     good-performed _ _ _ _ _ _ _ (blocks-are _ _ _ _ _ (span .before .offset .ensures) (ends _ _ _ (span .span .ensures))) (judge .judge .ensures) (good .before .is-good .ensures) (good .if1 .left) _ (c .before .before .before .before .move-blocks .ensures)
 
 pub perform-spec : {M : Type 1} → statement M
