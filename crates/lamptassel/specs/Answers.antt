@@ -4,13 +4,8 @@ use mathlib.Core.List.{List}
 use mathlib.Core.Path.{_≡_}
 use Rattle.answer.specs.Answer.{numberOf, addressOf, placeOf}
 use Rattle.answer.specs.Outcome.{Outcome}
-use Rattle.segment.specs.declared.Description.{Description}
 use Rattle.execute.specs.Lent.{Lent}
 use Rattle.format.specs.declared.Choice.{Choice}
-
--- "type P, block length B, exponent e, first address W, count N and the bit ATO", in this order
-abbrev pub described : ℕ → ℕ → ℕ → ℕ → ℕ → ℕ → Description
-described p b e w n ato = record { kind = p; block = b; exponent = e; first = w; count = n; ato = ato }
 
 -- a command's answer r, the numbers a and p in the places lent for them, and what is left of segment and buffer:
 -- "Numbers 8 to 10 also give the block's address and the interval's place in the transfer, from 0; all others give 0 and 0."

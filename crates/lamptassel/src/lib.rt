@@ -3,27 +3,14 @@ ghost use mathlib.Core.Path.{_≡_};
 ghost use Rattle.guard.specs.Guard.{guard};
 ghost use Rattle.guard.specs.Guards.{guards};
 ghost use Rattle.answer.specs.Answer.{senseNumbered};
+ghost use Rattle.segment.specs.Segment.{described};
 ghost use Rattle.execute.specs.Lent.{lent};
 ghost use Rattle.execute.specs.Execute.{executed};
 ghost use Rattle.format.specs.Choice.{choiceOf};
 ghost use Rattle.filling.specs.Fresh.{filled};
 ghost use Rattle.stripe.specs.Stripe.{made, rebuilt, corrected};
 ghost use Rattle.listing.specs.Listing.{Listed};
-ghost use Rattle.lamptassel.specs.Answers.{described, Executed, Chosen, Answered};
-use segment::Description;
-
-fn described(kind: u64, block: u64, exponent: u64, first: u64, count: u64, ato: u64) -> Description
-    ensures { λ r. ⌜ r ≡ described kind block exponent first count ato ⌝ }
-{
-    Description {
-        kind: kind,
-        block: block,
-        exponent: exponent,
-        first: first,
-        count: count,
-        ato: ato,
-    }
-}
+ghost use Rattle.lamptassel.specs.Answers.{Executed, Chosen, Answered};
 
 // Executes a command on a segment: READ, WRITE or VERIFY. Hands back the answer's number; the block's address and the
 // interval's place that go with it are put into `address` and `place`.
@@ -43,7 +30,7 @@ pub extern "C" fn lamptassel_execute(
 ) -> u64
     ensures { λ r. ⌜ Executed (executed (described kind block exponent first count ato) (now (command .entry)) (lent (now (segment .entry)) (now (buffer .entry)))) r (now (address .exit)) (now (place .exit)) (lent (now (segment .exit)) (now (buffer .exit))) ⌝ }
 {
-    let d = described(kind, block, exponent, first, count, ato);
+    let d = segment::described(kind, block, exponent, first, count, ato);
     let a = execute::execute(d, segment, command, buffer);
     *address = answer::address(a);
     *place = answer::place(a);
@@ -80,7 +67,7 @@ pub extern "C" fn lamptassel_fill(
 ) -> u64
     ensures { λ r. ⌜ Answered (filled (described kind block exponent first count ato) (now (segment .entry))) r (now (segment .exit)) ⌝ }
 {
-    let d = described(kind, block, exponent, first, count, ato);
+    let d = segment::described(kind, block, exponent, first, count, ato);
     answer::number(filling::fill(d, segment))
 }
 
@@ -99,7 +86,7 @@ pub extern "C" fn lamptassel_parity(
 ) -> u64
     ensures { λ r. ⌜ Answered (made (described kind block exponent first count ato) k (now (members .entry)) (now (out .entry))) r (now (out .exit)) ⌝ }
 {
-    let d = described(kind, block, exponent, first, count, ato);
+    let d = segment::described(kind, block, exponent, first, count, ato);
     answer::number(stripe::make(d, k, members, out))
 }
 
@@ -119,7 +106,7 @@ pub extern "C" fn lamptassel_rebuild(
 ) -> u64
     ensures { λ r. ⌜ Answered (rebuilt (described kind block exponent first count ato) k lost (now (parts .entry)) (now (out .entry))) r (now (out .exit)) ⌝ }
 {
-    let d = described(kind, block, exponent, first, count, ato);
+    let d = segment::described(kind, block, exponent, first, count, ato);
     answer::number(stripe::rebuild(d, k, lost, parts, out))
 }
 
@@ -138,7 +125,7 @@ pub extern "C" fn lamptassel_correct(
 ) -> u64
     ensures { λ r. ⌜ Answered (corrected (described kind block exponent first count ato) (now (old .entry)) (now (new .entry)) (now (parity .entry))) r (now (parity .exit)) ⌝ }
 {
-    let d = described(kind, block, exponent, first, count, ato);
+    let d = segment::described(kind, block, exponent, first, count, ato);
     answer::number(stripe::correct(d, old, new, parity))
 }
 

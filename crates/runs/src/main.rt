@@ -1,6 +1,5 @@
 // Runs the cases of document 01, 'Both sides of the line', that are commands, and prints what comes of each.
 use answer::Answer;
-use segment::Description;
 
 fn main() {
     reads();
@@ -63,14 +62,7 @@ fn write() {
 }
 
 fn write_of_type_2() {
-    let d = Description {
-        kind: 2,
-        block: 8,
-        exponent: 1,
-        first: 0,
-        count: 1,
-        ato: 0,
-    };
+    let d = segment::described(2, 8, 1, 0, 1, 0);
     let mut segment = [0xFF; 24];
     let mut buffer = [0; 8];
     let a = execute::execute(
@@ -89,14 +81,7 @@ fn write_of_type_2() {
 
 // A command on M, whose ATO is 0.
 fn on_m(name: &[u8], command: &[u8], buffer: &mut [u8]) {
-    let d = Description {
-        kind: 1,
-        block: 8,
-        exponent: 0,
-        first: 7,
-        count: 3,
-        ato: 0,
-    };
+    let d = segment::described(1, 8, 0, 7, 3, 0);
     let mut m =
         *b"\x00\x00\x00\x00\x00\x00\x00\x01\x8b\xb7\x00\x00\x00\x00\x00\x07\x00\x00\x00\x00\x00\x00\x00\x02\x9c\xd9\x00\x00\x00\x00\x00\x07\x00\x00\x00\x00\x00\x00\x00\x03\x00\x00\xff\xff\x00\x00\x00\x00";
     let a = execute::execute(d, &mut m, command, buffer);

@@ -2,6 +2,7 @@
 -- answers x and y that the contract permits are one, and so is each byte lent to be written, as the calls leave it in s and in t.
 -- Assumes nothing.
 use mathlib.Core.Path.{_≡_, sym, _∙_}
+use Rattle.segment.proofs.described.Reads as described-reads
 use Rattle.segment.proofs.intervals.Reads as intervals-reads
 use Rattle.segment.proofs.size.Reads as size-reads
 use Rattle.segment.proofs.stored.Reads as stored-reads
@@ -11,6 +12,9 @@ use Rattle.segment.proofs.segment_rules.Reads as segment-rules-reads
 use Rattle.segment.proofs.range_rule.Reads as range-rule-reads
 use Rattle.segment.proofs.offset.Reads as offset-reads
 use Rattle.segment.proofs.span.Reads as span-reads
+
+pub described : (κs : _) (a : _) (x y : _) (s t : _) → described-reads.Post κs a x s → described-reads.Post κs a y t → x ≡ y
+described κs a x y s t p q = p ∙ sym q
 
 pub intervals : (κs : _) (a : _) (x y : _) (s t : _) → intervals-reads.Post κs a x s → intervals-reads.Post κs a y t → x ≡ y
 intervals κs a x y s t p q = p ∙ sym q

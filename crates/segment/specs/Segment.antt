@@ -5,6 +5,10 @@ use mathlib.Core.Path.{_≡_}
 use lib.Dec.{eqb, leb}
 use Rattle.segment.specs.declared.Description.{Description}
 
+-- "type P, block length B, exponent e, first address W, count N and the bit ATO", in this order
+abbrev pub described : ℕ → ℕ → ℕ → ℕ → ℕ → ℕ → Description
+described p b e w n ato = record { kind = p; block = b; exponent = e; first = w; count = n; ato = ato }
+
 -- "P is 0 to 3, ATO 0 or 1. B is 8 to 4,096 and a multiple of 8. e is 0 to 3, and 0 for types 0 and 1. N is 1 to 65,536.
 -- W + N is at most 2^63."
 unfoldable pub isSegment : Description → Bool

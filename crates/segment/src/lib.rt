@@ -1,7 +1,7 @@
 // The description of a segment, by value: which descriptions are segments, the sizes that follow, and where blocks lie.
 ghost use mathlib.Core.Path.{_≡_};
 ghost use Prim.Native.Nat.{_+_, _≤_};
-ghost use Rattle.segment.specs.Segment.{isSegment, Segment, intervalsOf, sizeOf, storedOf, lengthOf};
+ghost use Rattle.segment.specs.Segment.{described, isSegment, Segment, intervalsOf, sizeOf, storedOf, lengthOf};
 ghost use Rattle.segment.specs.Rules.{descriptionRule, segmentRules};
 ghost use Rattle.segment.specs.Places.{rangeRule, offsetOf, spanOf};
 use answer::Answer;
@@ -15,6 +15,27 @@ pub struct Description {
     pub first: u64,
     pub count: u64,
     pub ato: u64,
+}
+
+// The description that six numbers give, in the order in which they are handed over.
+pub fn described(
+    kind: u64,
+    block: u64,
+    exponent: u64,
+    first: u64,
+    count: u64,
+    ato: u64,
+) -> Description
+    ensures { λ r. ⌜ r ≡ described kind block exponent first count ato ⌝ }
+{
+    Description {
+        kind,
+        block,
+        exponent,
+        first,
+        count,
+        ato,
+    }
 }
 
 // Whether the numbers describe a segment.

@@ -1,5 +1,4 @@
 // Runs the guards and the parity of document 01, 'Both sides of the line', and prints what comes of each.
-use segment::Description;
 
 fn main() {
     guards();
@@ -39,14 +38,7 @@ fn word(n: u16) {
 
 // Members: M's first block, and one whose reference tag is 7 too.
 fn parity() {
-    let d = Description {
-        kind: 1,
-        block: 8,
-        exponent: 0,
-        first: 7,
-        count: 1,
-        ato: 0,
-    };
+    let d = segment::described(1, 8, 0, 7, 1, 0);
     let mut out = [0; 16];
     let a = stripe::make(
         d,
