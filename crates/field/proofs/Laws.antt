@@ -1,17 +1,17 @@
 -- The laws of an interval's parts, its data and its field, wherever they stand; and of field bytes, as code writes them.
 -- Assumes nothing.
 use mathlib.Core.Path.{_≡_, ap, _∙_}
-use mathlib.Core.List.{List, [], _++_, append-assoc}
-use Prim.Native.Nat.{ℕ, _+_, _-_, _*_, _<_, _≤_}
+use mathlib.Core.List.{List, _++_, append-assoc}
+use Prim.Native.Nat.{ℕ, _+_, _-_, _*_, _^_, _<_, _≤_}
 use native.Mathlib.Nat.{add-assoc}
 use native.Mathlib.Omega.{arith}
 use lib.Bits.{bitXor}
-use lib.ListN.{length, take, drop, length-append, length-take, length-drop, drop-of-length-le}
+use lib.ListN.{length, take, drop, length-append, length-take, length-drop}
 use lib.Seq.{drop-drop, drop-at, take-at, take-take}
 use Rattle.words.specs.BigEndian.{number, numberAt, bytes}
-use Rattle.words.specs.Parts.{Bytes, put}
+use Rattle.words.specs.Parts.{Bytes}
 use Rattle.words.specs.Xor.{xors}
-use Rattle.words.proofs.BigEndian.{bytes-length, number-xors}
+use Rattle.words.proofs.BigEndian.{bytes-length, bytes-joined, number-xors}
 use Rattle.words.proofs.Parts.{part-at, drop-take, take-bytes, part-bytes}
 use Rattle.words.proofs.Runs.{peel-within, peel-rest}
 use Rattle.words.proofs.Xor.{xors-take, xors-drop}
@@ -64,14 +64,11 @@ module _ (g a r : ℕ) where
   unfolding fieldBytes
   field-length = simp (length-append, bytes-length)
 
-  -- three numbers put into eight bytes, one after the other
-  pub field-put : (d d₁ d₂ d₃ : List ℕ) → length d ≡ 8 → d₁ ≡ put 0 (bytes 2 g) d → d₂ ≡ put 2 (bytes 2 a) d₁ → d₃ ≡ put 4 (bytes 4 r) d₂ → d₃ ≡ fieldBytes g a r
-  unfolding fieldBytes put bytes
-  field-put d d₁ d₂ d₃ eight e₁ e₂ e₃ =
-      let behind : length (drop 2 (drop 2 d)) ≤ 4 = simp length-drop (omega arith) in
-      let nothing : drop 4 (drop 2 (drop 2 d)) ≡ [] = drop-of-length-le (drop 2 (drop 2 d)) behind in
-      e₃ ∙ ap (put 4 (bytes 4 r)) (e₂ ∙ ap (put 2 (bytes 2 a)) e₁)
-      ∙ ap (λ (rest : List ℕ). bytes 2 g ++ (bytes 2 a ++ (bytes 4 r ++ rest))) nothing
+  -- the three as one number of eight bytes
+  pub field-number : a < 2 ^ 16 → r < 2 ^ 32 → bytes 8 (g * 2 ^ 48 + (a * 2 ^ 32 + r)) ≡ fieldBytes g a r
+  unfolding fieldBytes
+  field-number ha hr =
+      bytes-joined 2 6 g (a * 2 ^ 32 + r) (omega arith) ∙ ap (λ (s : List ℕ). bytes 2 g ++ s) (bytes-joined 2 4 a r hr)
 
 -- ---- under exclusive or
 pub stored-xors : (size : ℕ) (a b : List ℕ) → length a ≡ length b → Bytes a → Bytes b

@@ -24,12 +24,11 @@ pub fn stored_reference(field: &[u8]) -> u32
     words::read4(field, 4)
 }
 
-// Fills the field `d`.
+// Fills the field `d`: the three, one behind the other, are one number of eight bytes.
 pub fn write(d: &mut [u8], guard: u16, application: u16, reference: u32)
     requires { ⌜ length (now d) ≡ 8 ⌝ }
     ensures { λ _. ⌜ now (d .exit) ≡ fieldBytes guard application reference ⌝ }
 {
-    words::write2(d, 0, guard);
-    words::write2(d, 2, application);
-    words::write4(d, 4, reference);
+    let tags = application as u64 * 0x1_0000_0000 + reference as u64;
+    words::write(d, guard as u64 * 0x1_0000_0000_0000 + tags);
 }

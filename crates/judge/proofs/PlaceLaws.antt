@@ -9,9 +9,6 @@ use Rattle.interval.specs.declared.Place.{Place}
 use Rattle.words.proofs.Turns.{after}
 use Rattle.judge.specs.Judge.{nextInterval, nextBlock}
 
-pub same-place : (a i x y : ℕ) → x ≡ y → _≡_ {A = Place} (record { address = a; interval = i; tag = x }) (record { address = a; interval = i; tag = y })
-same-place a i x y e = rw e refl
-
 -- a addresses and n intervals on
 abbrev pub moved : ℕ → ℕ → Place → Place
 moved a n p = record { address = p .address + a; interval = p .interval + n; tag = (p .tag + n) % 2 ^ 32 }

@@ -11,6 +11,10 @@ use Rattle.interval.specs.declared.Place.{Place}
 use Rattle.interval.specs.Interval.{anyEscapes, judgeInterval}
 use Rattle.judge.specs.FirstOf.{firstOf}
 
+-- so many blocks and intervals on, with the tag that is expected there
+abbrev pub placeOn : Place → ℕ → ℕ → ℕ → Place
+placeOn p blocks intervals tag = record { address = p .address + blocks; interval = p .interval + intervals; tag = tag }
+
 -- "Each later expected tag is one more than the one before, modulo 4,294,967,296, interval after interval through the
 -- transfer"
 abbrev pub nextInterval : Place → Place

@@ -2,35 +2,40 @@
 ghost use mathlib.Core.Path.{_≡_};
 ghost use Prim.Native.Nat.{_+_, _≤_, _<_, _^_};
 ghost use Rattle.guard.specs.Table.{Right};
-ghost use Rattle.judge.specs.Judge.{judgeIntervals, judgeBlock, judgeBlocks, nextInterval, nextBlock, Run, Stretch};
+ghost use Rattle.judge.specs.Judge.{judgeIntervals, judgeBlock, judgeBlocks, placeOn, nextInterval, nextBlock, Run, Stretch};
 use answer::Answer;
 use interval::Place;
 use interval::Rules;
+
+// The place so many blocks and intervals on, with the tag that is expected there.
+fn place_on(p: Place, blocks: usize, intervals: usize, tag: u32) -> Place
+    requires { ⌜ (p .address + blocks < 2 ^ 64) × (p .interval + intervals < 2 ^ 64) ⌝ }
+    ensures { λ q. ⌜ q ≡ placeOn p blocks intervals tag ⌝ }
+{
+    Place {
+        address: p.address + blocks as u64,
+        interval: p.interval + intervals as u64,
+        tag,
+    }
+}
 
 // The place of the next interval of the block, and of the next block.
 pub fn next_interval(p: Place) -> Place
     requires { ⌜ p .interval < 2 ^ 32 ⌝ }
     ensures { λ q. ⌜ q ≡ nextInterval p ⌝ }
 {
-    Place {
-        address: p.address,
-        interval: p.interval + 1,
-        tag: std::num::wrapping_add_u32(p.tag, 1),
-    }
+    place_on(p, 0, 1, std::num::wrapping_add_u32(p.tag, 1))
 }
 
 pub fn next_block(n: usize, p: Place) -> Place
     requires { ⌜ (n ≤ 8) × (p .interval + n ≤ 2 ^ 32) × (p .address < 2 ^ 63) ⌝ }
     ensures { λ q. ⌜ q ≡ nextBlock n p ⌝ }
 {
-    Place {
-        address: p.address + 1,
-        interval: p.interval + n as u64,
-        tag: std::num::wrapping_add_u32(p.tag, n as u32),
-    }
+    place_on(p, 1, n, std::num::wrapping_add_u32(p.tag, n as u32))
 }
 
-// The first wrong one of `count` intervals of a block.
+// The first wrong one of `count` intervals of a block. Its place is worked out from the intervals that are left, the tag alone goes
+// on from turn to turn.
 pub fn judge_intervals(t: &[u16; 256], r: Rules, p: Place, count: usize, s: &[u8]) -> Answer
     requires { ⌜ Right (now t) ⌝ }
     requires { ⌜ Stretch r count p (now s) ⌝ }
@@ -38,16 +43,17 @@ pub fn judge_intervals(t: &[u16; 256], r: Rules, p: Place, count: usize, s: &[u8
 {
     let size = r.size;
     let mut left = count;
-    let mut here = p;
+    let mut tag = p.tag;
     let mut i: usize = 0;
     while 0 < left {
         let m = i + size;
         let end = m + 8;
+        let here = place_on(p, 0, count - left, tag);
         let a = interval::judge_pieces(t, r, here, &s[i..m], &s[m..end]);
         if !answer::is_good(a) {
             return a;
         }
-        here = next_interval(here);
+        tag = std::num::wrapping_add_u32(tag, 1);
         i = end;
         left -= 1;
     }
@@ -76,15 +82,17 @@ pub fn judge_blocks(t: &[u16; 256], r: Rules, p: Place, count: usize, s: &[u8]) 
     let n = r.intervals;
     let block = n * (r.size + 8);
     let mut left = count;
-    let mut here = p;
+    let mut tag = p.tag;
     let mut i: usize = 0;
     while 0 < left {
         let end = i + block;
+        let done = count - left;
+        let here = place_on(p, done, done * n, tag);
         let a = judge_block(t, r, here, &s[i..end]);
         if !answer::is_good(a) {
             return a;
         }
-        here = next_block(n, here);
+        tag = std::num::wrapping_add_u32(tag, n as u32);
         i = end;
         left -= 1;
     }

@@ -3,7 +3,7 @@
 use mathlib.Core.Path.{_≡_, refl, sym, ap, ap₂, _∙_}
 use mathlib.Core.List.{List, [], _∷_, _++_, append-assoc, append-nil}
 use Prim.Native.Nat.{ℕ, zero, suc, _+_, _-_, _*_, _/_, _%_, _^_, _<_, _≤_}
-use native.Mathlib.Nat.{suc-inj, pow-suc, add-zero, add-suc, suc-add, zero-add, lt-of-lt-of-le, div-lt-iff-lt-mul, div-add-mod', mod-lt, le-refl, pow-le-pow-right}
+use native.Mathlib.Nat.{suc-inj, pow-suc, add-zero, add-suc, add-assoc, add-mul, suc-add, zero-add, mul-assoc, mul-one, lt-of-lt-of-le, div-lt-iff-lt-mul, div-add-mod', mod-lt, le-refl, pow-le-pow-right}
 use native.Mathlib.Numerals.{add-one}
 use native.Mathlib.Omega.{arith}
 use lib.Arith.{digits-lt}
@@ -90,6 +90,27 @@ write-next d whole (suc i) n h l e =
     rw (down, drop-cons (set d i (n % 256)) i 0 within, getD-set-same d i (n % 256) 0 l, drop-set-lt (suc i) d i (n % 256) (le-refl (suc i)))
     (sym (append-assoc (bytes i (n / 256)) (n % 256 ∷ []) (drop (suc i) d)) ∙ e)
 
+high-byte : (n b : ℕ) → b < 256 → (n * 256 + b) / 256 ≡ n
+high-byte n b h = omega arith
+
+low-byte : (n b : ℕ) → b < 256 → (n * 256 + b) % 256 ≡ b
+low-byte n b h = omega arith
+
+-- two numbers, the lower one of w bytes: written one behind the other they are one number
+higher : (h l p : ℕ) → h * (p * 256) + l ≡ (h * p + l / 256) * 256 + l % 256
+higher h l p = rw (add-mul, add-assoc, div-add-mod' l 256, mul-assoc)
+
+pub bytes-joined : (v w h l : ℕ) → l < 256 ^ w → bytes (v + w) (h * 256 ^ w + l) ≡ bytes v h ++ bytes w l
+unfolding bytes
+bytes-joined v zero h l b = let none : l ≡ 0 = omega arith in rw (none, mul-one, add-zero v, add-zero h, append-nil)
+bytes-joined v (suc w) h l b =
+    let x = h * 256 ^ w + l / 256 in
+    let n : h * 256 ^ suc w + l ≡ x * 256 + l % 256 = rw pow-suc (higher h l (256 ^ w)) in
+    let low = mod-lt l (lit< tt) in
+    rw (add-suc, n, high-byte x (l % 256) low, low-byte x (l % 256) low)
+    (ap (λ (s : List ℕ). s ++ (l % 256 ∷ [])) (bytes-joined v w h (l / 256) (div-lt-iff-lt-mul (lit< tt) .1 (rw pow-suc at b)))
+    ∙ append-assoc (bytes v h) (bytes w (l / 256)) (l % 256 ∷ []))
+
 -- what is written reads back
 pub number-bytes : (w n : ℕ) → n < 256 ^ w → number (bytes w n) ≡ n
 unfolding number numberFrom bytes
@@ -100,12 +121,6 @@ number-bytes (suc w) n h =
     ∙ div-add-mod' n 256
 
 -- what is read is written back
-high-byte : (n b : ℕ) → b < 256 → (n * 256 + b) / 256 ≡ n
-high-byte n b h = omega arith
-
-low-byte : (n b : ℕ) → b < 256 → (n * 256 + b) % 256 ≡ b
-low-byte n b h = omega arith
-
 bytes-numberFrom : (s : List ℕ) (i n : ℕ) → Bytes s → bytes (i + length s) (numberFrom n s) ≡ bytes i n ++ s
 unfolding numberFrom bytes
 bytes-numberFrom [] i n p = rw (add-zero, append-nil)

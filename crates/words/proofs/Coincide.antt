@@ -6,8 +6,8 @@ use denote.Ref.{now}
 use Rattle.words.proofs.read_at.Reads as read-at-reads
 use Rattle.words.proofs.read2.Reads as read2-reads
 use Rattle.words.proofs.read4.Reads as read4-reads
+use Rattle.words.proofs.write.Reads as write-reads
 use Rattle.words.proofs.write2.Reads as write2-reads
-use Rattle.words.proofs.write4.Reads as write4-reads
 use Rattle.words.proofs.copy.Reads as copy-reads
 use Rattle.words.proofs.xor_into.Reads as xor-into-reads
 use Rattle.words.proofs.fill_with.Reads as fill-with-reads
@@ -21,11 +21,11 @@ read2 κs a x y s t p q = p ∙ sym q
 pub read4 : (κs : _) (a : _) (x y : _) (s t : _) → read4-reads.Post κs a x s → read4-reads.Post κs a y t → x ≡ y
 read4 κs a x y s t p q = p ∙ sym q
 
+pub write : (κs : _) (a : _) (x y : _) (s t : _) → write-reads.Post κs a x s → write-reads.Post κs a y t → now (s .0) ≡ now (t .0)
+write κs a x y s t p q = p ∙ sym q
+
 pub write2 : (κs : _) (a : _) (x y : _) (s t : _) → write2-reads.Post κs a x s → write2-reads.Post κs a y t → now (s .0) ≡ now (t .0)
 write2 κs a x y s t p q = p ∙ sym q
-
-pub write4 : (κs : _) (a : _) (x y : _) (s t : _) → write4-reads.Post κs a x s → write4-reads.Post κs a y t → now (s .0) ≡ now (t .0)
-write4 κs a x y s t p q = p ∙ sym q
 
 pub copy : (κs : _) (a : _) (x y : _) (s t : _) → copy-reads.Post κs a x s → copy-reads.Post κs a y t → now (s .0) ≡ now (t .0)
 copy κs a x y s t p q = p ∙ sym q

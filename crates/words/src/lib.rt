@@ -47,7 +47,7 @@ pub fn read4(s: &[u8], at: usize) -> u32
 }
 
 // Fills `d` with the low bytes of `n`, as many as it has.
-fn write(d: &mut [u8], n: u64)
+pub fn write(d: &mut [u8], n: u64)
     ensures { λ _. ⌜ now (d .exit) ≡ bytes (length (now (d .entry))) n ⌝ }
 {
     let mut rest = n;
@@ -59,20 +59,12 @@ fn write(d: &mut [u8], n: u64)
     }
 }
 
-// Writes `n` to the two or four bytes of `d` from `at` on.
+// Writes `n` to the two bytes of `d` from `at` on.
 pub fn write2(d: &mut [u8], at: usize, n: u16)
     requires { ⌜ at + 2 ≤ length (now d) ⌝ }
     ensures { λ _. ⌜ now (d .exit) ≡ put at (bytes 2 n) (now (d .entry)) ⌝ }
 {
     let end = at + 2;
-    write(&mut d[at..end], n as u64);
-}
-
-pub fn write4(d: &mut [u8], at: usize, n: u32)
-    requires { ⌜ at + 4 ≤ length (now d) ⌝ }
-    ensures { λ _. ⌜ now (d .exit) ≡ put at (bytes 4 n) (now (d .entry)) ⌝ }
-{
-    let end = at + 4;
     write(&mut d[at..end], n as u64);
 }
 

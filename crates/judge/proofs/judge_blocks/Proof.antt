@@ -3,7 +3,9 @@
 use mathlib.Core.Path.{_≡_, refl, sym, ap, _∙_}
 use mathlib.Core.Bool.{Bool, true, false, not}
 use mathlib.Core.List.{List}
-use Prim.Native.Nat.{ℕ, _+_, _*_, _-_, _^_, _<_, _≤_, zero-le}
+use Prim.Native.Nat.{ℕ, suc, _+_, _*_, _-_, _%_, _^_, _<_, _≤_, zero-le}
+use native.Mathlib.Nat.{add-zero, add-suc, add-assoc, zero-mul, suc-mul, le-refl}
+use native.Mathlib.Numerals.{add-one}
 use native.Mathlib.Omega.{arith}
 use lib.ListN.{length, take, drop}
 use borrow.Author.Tests.{not-true, not-false}
@@ -13,54 +15,64 @@ use Rattle.answer.specs.declared.Answer.{Answer}
 use Rattle.interval.specs.declared.Rules.{Rules}
 use Rattle.interval.specs.declared.Place.{Place}
 use Rattle.judge.specs.FirstOf.{firstOf}
-use Rattle.judge.specs.Judge.{judgeBlock, judgeBlocks, nextBlock, Run}
+use Rattle.judge.specs.Judge.{judgeBlock, judgeBlocks, placeOn, nextBlock, Run}
 use Rattle.judge.proofs.FirstLaws.{first-next, first-stop, first-end}
-use Rattle.judge.proofs.BlockLaws.{own-block, first-within, first-run, first-room, rest-run, block-fits}
+use Rattle.judge.proofs.BlockLaws.{own-block, first-within, first-run, rest-run, block-fits}
 use borrow.Author.Needs.{needs}
 use Rattle.judge.proofs.judge_blocks.Statement.{statement}
 use Rattle.judge.proofs.judge_blocks.Tie as tie
 
-record Going (r : Rules) (count : ℕ) (p : Place) (s : List ℕ) (left : ℕ) (here : Place) (i : ℕ) : Type 0 where
+reached-none : (n : ℕ) (p : Place) (k : ℕ) → placeOn p (k - k) ((k - k) * n) (p .tag) ≡ p
+reached-none n p k = let none : k - k ≡ 0 = omega arith in rw (none, zero-mul, add-zero (p .address), add-zero (p .interval)) refl
+
+reached-next : (n : ℕ) (p : Place) (k left tag : ℕ) → 0 < left → left ≤ k
+    → placeOn p (k - (left - 1)) ((k - (left - 1)) * n) ((tag + n) % 2 ^ 32) ≡ nextBlock n (placeOn p (k - left) ((k - left) * n) tag)
+reached-next n p k left tag h l =
+    let on : k - (left - 1) ≡ suc (k - left) = omega arith in
+    rw (on, suc-mul, ← add-assoc (p .interval), add-suc, add-one) refl
+
+record Going (r : Rules) (count : ℕ) (p : Place) (s : List ℕ) (left tag i : ℕ) : Type 0 where
   inside : i ≤ length s
-  run : Run r left here (drop i s)
-  same : firstOf (judgeBlock r) (nextBlock (r .intervals)) (r .intervals * (r .size + 8)) left here (drop i s) ≡ judgeBlocks r count p s
+  fewer : left ≤ count
+  run : Run r left (placeOn p (count - left) ((count - left) * r .intervals) tag) (drop i s)
+  same : firstOf (judgeBlock r) (nextBlock (r .intervals)) (r .intervals * (r .size + 8)) left (placeOn p (count - left) ((count - left) * r .intervals) tag) (drop i s)
+      ≡ judgeBlocks r count p s
 
-begins : {r : Rules} {count : ℕ} {p : Place} {s : List ℕ} → Run r count p s → Going r count p s count p 0
+begins : {r : Rules} {count : ℕ} {p : Place} {s : List ℕ} → Run r count p s → Going r count p s count (p .tag) 0
 unfolding judgeBlocks
-begins run = record { inside = zero-le; run = run; same = refl }
+begins {r} {count} {p} run = record { inside = zero-le; fewer = le-refl count; run = rw (reached-none (r .intervals) p count) run; same = rw (reached-none (r .intervals) p count) refl }
 
-module _ {r : Rules} {count : ℕ} {p : Place} {s : List ℕ} {left : ℕ} {here : Place} {i : ℕ} (g : Going r count p s left here i) (h : 0 < left) where
+module _ {r : Rules} {count : ℕ} {p : Place} {s : List ℕ} {left tag i : ℕ} (g : Going r count p s left tag i) (h : 0 < left) where
   within : i + r .intervals * (r .size + 8) ≤ length s
   within = first-within s i (g .run) h (g .inside)
 
-  first : Run r 1 here (take (i + r .intervals * (r .size + 8) - i) (drop i s))
+  first : Run r 1 (placeOn p (count - left) ((count - left) * r .intervals) tag) (take (i + r .intervals * (r .size + 8) - i) (drop i s))
   first = first-run s i (g .run) h
 
-  room : (r .intervals ≤ 8) × (here .interval + r .intervals ≤ 2 ^ 32) × (here .address < 2 ^ 63)
-  room = first-room s i (g .run) h
-
-  module _ {a : Answer} {b : Bool} (m : a ≡ judgeBlock r here (take (i + r .intervals * (r .size + 8) - i) (drop i s))) (t : b ≡ isGood a) where
-    judged : a ≡ judgeBlock r here (drop i s)
-    judged = m ∙ ap (judgeBlock r here) (part-at i _ s) ∙ own-block r here (drop i s)
+  module _ {here : Place} {a : Answer} {b : Bool} (w : here ≡ placeOn p (count - left) ((count - left) * r .intervals) tag)
+      (m : a ≡ judgeBlock r here (take (i + r .intervals * (r .size + 8) - i) (drop i s))) (t : b ≡ isGood a) where
+    judged : a ≡ judgeBlock r (placeOn p (count - left) ((count - left) * r .intervals) tag) (drop i s)
+    judged = rw w at m ∙ ap (judgeBlock r _) (part-at i _ s) ∙ own-block r _ (drop i s)
 
     stop : not b ≡ true → a ≡ judgeBlocks r count p s
-    stop w = first-stop (judgeBlock r) (nextBlock (r .intervals)) _ left i here s a _ h judged (sym t ∙ not-true b w) (g .same)
+    stop f = first-stop (judgeBlock r) (nextBlock (r .intervals)) _ left i _ s a _ h judged (sym t ∙ not-true b f) (g .same)
 
-    turn : {there : Place} → not b ≡ false → there ≡ nextBlock (r .intervals) here
-        → Going r count p s (left - 1) there (i + r .intervals * (r .size + 8))
+    turn : {next : ℕ} → not b ≡ false → next ≡ (tag + r .intervals) % 2 ^ 32 → Going r count p s (left - 1) next (i + r .intervals * (r .size + 8))
     turn o e =
+        let on = reached-next (r .intervals) p count left tag h (g .fewer) in
         rw e
         (record {
           inside = within;
-          run = rest-run s i (g .run) h;
-          same = first-next (judgeBlock r) (nextBlock (r .intervals)) _ left i here s a _ h judged (sym t ∙ not-false b o) (g .same);
+          fewer = omega (arith, g .fewer);
+          run = rw on (rest-run s i (g .run) h);
+          same = rw on (first-next (judgeBlock r) (nextBlock (r .intervals)) _ left i _ s a _ h judged (sym t ∙ not-false b o) (g .same));
         })
 
 abbrev Inv-loop : tie.InvT-loop
-Inv-loop t r count s n block left₀ here₀ i₀ left here i = Going r count here₀ s left here i
+Inv-loop t r p count s n block left₀ tag₀ i₀ left tag i = Going r count p s left tag i
 
 abbrev μ-loop : tie.MeasureT-loop
-μ-loop t r count s n block left₀ here₀ i₀ left here i = left
+μ-loop t r p count s n block left₀ tag₀ i₀ left tag i = left
 
 mul-block : tie.Need-mul-block Inv-loop μ-loop
 mul-block c = omega (arith, block-fits (c .before .before .pre .1))
@@ -71,17 +83,28 @@ loop-holds c = search begins
 add-end : tie.Need-add-end Inv-loop μ-loop
 add-end c = omega (arith, within (c .before .loop .inv) (c .loop-test .taken), c .before .before .before .before .good)
 
+sub-done : tie.Need-sub-done Inv-loop μ-loop
+sub-done c = c .before .loop .inv .fewer
+
+mul-place-on : tie.Need-mul-place-on Inv-loop μ-loop
+mul-place-on c = omega (arith, c .before .loop .inv .run .intervals)
+
+place-on-requires : tie.Need-place-on-requires Inv-loop μ-loop
+place-on-requires c κs = (omega (arith, c .before .loop .inv .run .addresses), omega (arith, c .before .loop .inv .run .intervals))
+
 part-judge-block-end : tie.Need-part-judge-block-end Inv-loop μ-loop
-part-judge-block-end c = within (c .before .loop .inv) (c .loop-test .taken)
+part-judge-block-end c = within (c .before .before .loop .inv) (c .before .loop-test .taken)
 
 judge-block-requires : tie.Need-judge-block-requires Inv-loop μ-loop
-judge-block-requires c κs = search (needs, first)
+judge-block-requires c κs =
+    let at = c .before in
+    (at .before .before .before .before .before .pre .0, rw (at .place-on .ensures) (first (at .before .before .loop .inv) (at .before .loop-test .taken)))
 
 returns : tie.Need-returns Inv-loop μ-loop
 returns c = search stop
 
-next-block-requires : tie.Need-next-block-requires Inv-loop μ-loop
-next-block-requires c κs = let test = c .before .before .before .before in room (test .before .loop .inv) (test .loop-test .taken)
+cast-wrapping-add-u32 : tie.Need-cast-wrapping-add-u32 Inv-loop μ-loop
+cast-wrapping-add-u32 c = search needs
 
 loop-again : tie.Need-loop-again Inv-loop μ-loop
 loop-again c = search turn
@@ -99,12 +122,15 @@ judge-blocks-spec =
     mul-block
     loop-holds
     add-end
+    sub-done
+    mul-place-on
+    place-on-requires
     (λ c. search needs) (λ c. search needs)
     part-judge-block-end
     judge-block-requires
     (λ c κs. search needs)
     returns
-    next-block-requires
-    (λ c. search needs) (λ c. search needs)
+    cast-wrapping-add-u32
+    (λ c κs. search needs) (λ c. search needs) (λ c. search needs)
     loop-again
     returns-2)

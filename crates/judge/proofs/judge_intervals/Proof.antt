@@ -3,8 +3,8 @@
 use mathlib.Core.Path.{_≡_, refl, sym, ap₂, _∙_}
 use mathlib.Core.Bool.{Bool, true, false, not}
 use mathlib.Core.List.{List}
-use Prim.Native.Nat.{ℕ, _+_, _*_, _-_, _^_, _<_, _≤_}
-use native.Mathlib.Nat.{zero-add, add-assoc}
+use Prim.Native.Nat.{ℕ, _+_, _*_, _-_, _%_, _^_, _<_, _≤_}
+use native.Mathlib.Nat.{zero-add, add-zero, add-assoc, le-refl}
 use native.Mathlib.Omega.{arith}
 use lib.ListN.{length, take, drop}
 use borrow.Author.Tests.{not-true, not-false}
@@ -15,50 +15,57 @@ use Rattle.interval.specs.declared.Place.{Place}
 use Rattle.interval.specs.Interval.{judgePieces, judgeInterval}
 use Rattle.field.proofs.Laws.{interval-within, interval-rest, data-part, field-part}
 use Rattle.judge.specs.FirstOf.{firstOf}
-use Rattle.judge.specs.Judge.{judgeIntervals, nextInterval, Stretch}
+use Rattle.judge.specs.Judge.{judgeIntervals, placeOn, nextInterval, Stretch}
 use Rattle.judge.proofs.FirstLaws.{first-next, first-stop, first-end}
 use borrow.Author.Needs.{needs}
 use Rattle.judge.proofs.judge_intervals.Statement.{statement}
 use Rattle.judge.proofs.judge_intervals.Tie as tie
 
-record Judging (r : Rules) (k : ℕ) (p : Place) (s : List ℕ) (left : ℕ) (here : Place) (i : ℕ) : Type 0 where
+reached-none : (p : Place) (k : ℕ) → placeOn p 0 (k - k) (p .tag) ≡ p
+reached-none p k = let none : p .interval + (k - k) ≡ p .interval = omega arith in rw (add-zero (p .address), none) refl
+
+record Judging (r : Rules) (k : ℕ) (p : Place) (s : List ℕ) (left tag i : ℕ) : Type 0 where
   from : i + left * (r .size + 8) ≡ length s
-  room : here .interval + left ≤ 2 ^ 32
-  same : firstOf (judgeInterval r) nextInterval (r .size + 8) left here (drop i s) ≡ judgeIntervals r k p s
+  fewer : left ≤ k
+  room : p .interval + k ≤ 2 ^ 32
+  same : firstOf (judgeInterval r) nextInterval (r .size + 8) left (placeOn p 0 (k - left) tag) (drop i s) ≡ judgeIntervals r k p s
 
-begins : {r : Rules} {k : ℕ} {p : Place} {s : List ℕ} → Stretch r k p s → Judging r k p s k p 0
+begins : {r : Rules} {k : ℕ} {p : Place} {s : List ℕ} → Stretch r k p s → Judging r k p s k (p .tag) 0
 unfolding judgeIntervals
-begins run = record { from = zero-add _ ∙ run .whole; room = run .intervals; same = refl }
+begins {k = k} {p = p} run = record { from = zero-add _ ∙ run .whole; fewer = le-refl k; room = run .intervals; same = rw (reached-none p k) refl }
 
-module _ {r : Rules} {k : ℕ} {p : Place} {s : List ℕ} {left : ℕ} {here : Place} {i : ℕ} (g : Judging r k p s left here i) (h : 0 < left) where
+module _ {r : Rules} {k : ℕ} {p : Place} {s : List ℕ} {left tag i : ℕ} (g : Judging r k p s left tag i) (h : 0 < left) where
   within : i + r .size + 8 ≤ length s
   within = interval-within left i (r .size) (length s) h (g .from)
 
-  module _ {a : Answer} {b : Bool} (m : a ≡ judgePieces r here (take (i + r .size - i) (drop i s)) (take (i + r .size + 8 - (i + r .size)) (drop (i + r .size) s)))
+  module _ {here : Place} {a : Answer} {b : Bool} (w : here ≡ placeOn p 0 (k - left) tag)
+      (m : a ≡ judgePieces r here (take (i + r .size - i) (drop i s)) (take (i + r .size + 8 - (i + r .size)) (drop (i + r .size) s)))
       (t : b ≡ isGood a) where
-    judged : a ≡ judgeInterval r here (drop i s)
+    judged : a ≡ judgeInterval r (placeOn p 0 (k - left) tag) (drop i s)
     unfolding judgeInterval
-    judged = m ∙ ap₂ (judgePieces r here) (data-part i (r .size) s) (field-part i (r .size) s)
+    judged = rw w at m ∙ ap₂ (judgePieces r (placeOn p 0 (k - left) tag)) (data-part i (r .size) s) (field-part i (r .size) s)
 
     stop : not b ≡ true → a ≡ judgeIntervals r k p s
-    stop w = first-stop (judgeInterval r) nextInterval (r .size + 8) left i here s a _ h judged (sym t ∙ not-true b w) (g .same)
+    stop f = first-stop (judgeInterval r) nextInterval (r .size + 8) left i _ s a _ h judged (sym t ∙ not-true b f) (g .same)
 
-    turn : {there : Place} → not b ≡ false → there ≡ nextInterval here → Judging r k p s (left - 1) there (i + r .size + 8)
+    turn : {next : ℕ} → not b ≡ false → next ≡ (tag + 1) % 2 ^ 32 → Judging r k p s (left - 1) next (i + r .size + 8)
     turn o e =
+        let on : p .interval + (k - (left - 1)) ≡ p .interval + (k - left) + 1 = omega (arith, h, g .fewer) in
         rw e
         (record {
           from = interval-rest left i (r .size) (length s) h (g .from);
-          room = omega (arith, g .room);
+          fewer = omega (arith, g .fewer);
+          room = g .room;
           same =
-              rw (add-assoc i (r .size) 8)
-              (first-next (judgeInterval r) nextInterval (r .size + 8) left i here s a _ h judged (sym t ∙ not-false b o) (g .same));
+              rw (on, add-assoc i (r .size) 8)
+              (first-next (judgeInterval r) nextInterval (r .size + 8) left i _ s a _ h judged (sym t ∙ not-false b o) (g .same));
         })
 
 abbrev Inv-loop : tie.InvT-loop
-Inv-loop t r count s size left₀ here₀ i₀ left here i = Judging r left₀ here₀ s left here i
+Inv-loop t r p count s size left₀ tag₀ i₀ left tag i = Judging r count p s left tag i
 
 abbrev μ-loop : tie.MeasureT-loop
-μ-loop t r count s size left₀ here₀ i₀ left here i = left
+μ-loop t r p count s size left₀ tag₀ i₀ left tag i = left
 
 loop-holds : tie.Need-loop-holds Inv-loop μ-loop
 loop-holds c = search begins
@@ -69,17 +76,27 @@ add-m c = omega (arith, within (c .before .loop .inv) (c .loop-test .taken), c .
 add-end : tie.Need-add-end Inv-loop μ-loop
 add-end c = omega (arith, within (c .before .loop .inv) (c .loop-test .taken), c .before .before .before .good)
 
+sub-place-on : tie.Need-sub-place-on Inv-loop μ-loop
+sub-place-on c = c .before .loop .inv .fewer
+
+place-on-requires : tie.Need-place-on-requires Inv-loop μ-loop
+place-on-requires c κs = (omega arith, omega (arith, c .before .loop .inv .room))
+
 part-judge-pieces-end : tie.Need-part-judge-pieces-end Inv-loop μ-loop
-part-judge-pieces-end c = omega (arith, within (c .before .loop .inv) (c .loop-test .taken))
+part-judge-pieces-end c = omega (arith, within (c .before .before .loop .inv) (c .before .loop-test .taken))
 
 part-judge-pieces-end-2 : tie.Need-part-judge-pieces-end-2 Inv-loop μ-loop
-part-judge-pieces-end-2 c = within (c .before .before .loop .inv) (c .before .loop-test .taken)
+part-judge-pieces-end-2 c = within (c .before .before .before .loop .inv) (c .before .before .loop-test .taken)
 
 returns : tie.Need-returns Inv-loop μ-loop
 returns c = search stop
 
 loop-again : tie.Need-loop-again Inv-loop μ-loop
-loop-again c = search turn
+loop-again c =
+    let b = c .before .before in
+    let at = b .before .before .before .before in
+    turn (at .before .before .loop .inv) (at .before .loop-test .taken) (at .place-on .ensures) (b .before .judge-pieces .ensures) (b .is-good .ensures)
+    (c .before .if1 .left) (c .wrapping-add-u32 .ensures)
 
 returns-2 : tie.Need-returns-2 Inv-loop μ-loop
 returns-2 c = first-end _ _ _ (c .before .loop .left) _ _ _ (c .loop-test .left) (c .before .loop .inv .same)
@@ -93,6 +110,8 @@ judge-intervals-spec =
     loop-holds
     add-m
     add-end
+    sub-place-on
+    place-on-requires
     (λ c. search needs) (λ c. search needs)
     part-judge-pieces-end
     (λ c. search needs) (λ c. search needs)
