@@ -6,6 +6,7 @@ use Rattle.answer.proofs.number.Reads as number-reads
 use Rattle.answer.proofs.address.Reads as address-reads
 use Rattle.answer.proofs.place.Reads as place-reads
 use Rattle.answer.proofs.is_good.Reads as is-good-reads
+use Rattle.answer.proofs.refused_if.Reads as refused-if-reads
 use Rattle.answer.proofs.sense_numbered.Reads as sense-numbered-reads
 
 pub number : (κs : _) (a : _) (x y : _) (s t : _) → number-reads.Post κs a x s → number-reads.Post κs a y t → x ≡ y
@@ -19,6 +20,9 @@ place κs a x y s t p q = p ∙ sym q
 
 pub is-good : (κs : _) (a : _) (x y : _) (s t : _) → is-good-reads.Post κs a x s → is-good-reads.Post κs a y t → x ≡ y
 is-good κs a x y s t p q = p ∙ sym q
+
+pub refused-if : (κs : _) (a : _) (x y : _) (s t : _) → refused-if-reads.Post κs a x s → refused-if-reads.Post κs a y t → x ≡ y
+refused-if κs a x y s t p q = p ∙ sym q
 
 pub sense-numbered : (κs : _) (a : _) (x y : _) (s t : _) → sense-numbered-reads.Post κs a x s → sense-numbered-reads.Post κs a y t → x ≡ y
 sense-numbered κs a x y s t p q = p ∙ sym q

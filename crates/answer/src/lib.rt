@@ -1,6 +1,6 @@
 // The answers of document 01's table, and the numbers and senses of the paper.
 ghost use mathlib.Core.Path.{_≡_};
-ghost use Rattle.answer.specs.Answer.{fieldNumber, reasonNumber, numberOf, addressOf, placeOf, isGood, senseNumbered};
+ghost use Rattle.answer.specs.Answer.{fieldNumber, reasonNumber, numberOf, addressOf, placeOf, isGood, refusedIf, senseNumbered};
 
 // A field of an interval.
 pub enum Field {
@@ -100,6 +100,16 @@ pub fn is_good(a: Answer) -> bool
         Answer::Wrong(_, _, _) => false,
         Answer::Refused(_) => false,
     }
+}
+
+// A rule: the refusal where something holds.
+pub fn refused_if(holds: bool, r: Reason) -> Answer
+    ensures { λ a. ⌜ a ≡ refusedIf holds r ⌝ }
+{
+    if holds {
+        return Answer::Refused(r);
+    }
+    Answer::Good
 }
 
 // The sense that goes with an answer's number: key, code and qualifier, two hexadecimal digits each; 0 where the table has none.

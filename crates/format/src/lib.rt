@@ -53,19 +53,8 @@ fn supports(protect: u64, spt: u64) -> bool
 fn in_range(spt: u64, protect: u64, fmtpinfo: u64, usage: u64) -> bool
     ensures { λ r. ⌜ r ≡ inRange spt protect fmtpinfo usage ⌝ }
 {
-    if 7 < spt {
-        return false;
-    }
-    if 1 < protect {
-        return false;
-    }
-    if 3 < fmtpinfo {
-        return false;
-    }
-    if 7 < usage {
-        return false;
-    }
-    true
+    let numbers = words::both(fmtpinfo <= 3, usage <= 7);
+    words::both(spt <= 7, words::both(protect <= 1, numbers))
 }
 
 fn sentences(spt: u64, protect: u64, fmtpinfo: u64, usage: u64) -> Choice

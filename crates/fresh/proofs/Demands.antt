@@ -6,7 +6,7 @@ use mathlib.Core.List.{List}
 use Prim.Native.Nat.{ℕ, zero, suc, _+_, _*_, _≤_, _<_}
 use native.Mathlib.Nat.{zero-mul}
 use native.Mathlib.Omega.{arith}
-use borrow.Author.Tests.{eqb-true, eqb-false}
+use borrow.Author.Tests.{eq-eqb, eqb-true, eqb-false, le-ltb}
 use lib.Dec.{eqb}
 use lib.ListN.{length, replicate}
 use Rattle.words.specs.BigEndian.{numberFrom, number, numberAt}
@@ -39,8 +39,8 @@ use Rattle.rules.specs.Intervals.{skipped}
 use Rattle.rules.proofs.Laws.{checked-none}
 use Rattle.filling.specs.Fresh.{freshIntervals, filled}
 use Rattle.refusal.specs.declared.Lengths.{Lengths}
-use Rattle.refusal.specs.Refusal.{isVerify, movedOf, bufferOf, refusal}
-use Rattle.refusal.proofs.Rules.{moved-plain, moved-whole, moved-most, size-fits, room-moved, buffer-fits, check-zero}
+use Rattle.refusal.specs.Refusal.{isVerify, checkRule, movedOf, sizeRule, bufferOf, bufferRule, refusal}
+use Rattle.refusal.proofs.Rules.{moved-plain, moved-whole, moved-most, room-moved}
 use Rattle.admission.specs.declared.Admitted.the-variants.{Go}
 use Rattle.admission.specs.Admission.{admitted}
 use Rattle.admission.specs.Ready.{Ready}
@@ -157,11 +157,18 @@ module _ (d : Description) (c : Command) (s : Segment d) where
 
   not-refused : (b : Lengths) → (d .kind ≡ 0 → ⊥) → Allowed d c → c .check ≡ 0
       → d .first ≤ c .address → c .address + c .length ≤ d .first + d .count → b .buffer ≡ bufferOf d c → refusal d c b ≡ answers.Good
-  unfolding refusal
+  unfolding refusal checkRule sizeRule bufferRule
   not-refused b fields allowed check from to room =
       let passed = codes-allowed d c fields .1 allowed in
       let few : c .length ≤ 65536 = omega (arith, s .count) in
-      rw (passed .0, passed .1, check-zero c check, inside d (c .address) (c .length) from to, size-fits d c (moved-fits few), buffer-fits d c b room)
+      rw (
+        passed .0,
+        passed .1,
+        eq-eqb (c .check) 0 check,
+        inside d (c .address) (c .length) from to,
+        le-ltb 4294967295 (movedOf d c) (moved-fits few),
+        eq-eqb (b .buffer) (bufferOf d c) room,
+      )
 
 module _ (d : Description) (old command buffer : List ℕ) (c : Command)
     (good : filled d old .answer ≡ answers.Good) (fields : d .kind ≡ 0 → ⊥)

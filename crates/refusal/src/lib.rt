@@ -19,42 +19,27 @@ fn type_rules(d: Description, c: Command) -> Answer
     ensures { λ r. ⌜ r ≡ typeRules d c ⌝ }
 {
     if c.long {
-        if d.kind == 2 {
-            return Answer::Good;
-        }
-        return Answer::Refused(Reason::OperationInvalid);
-    }
-    if d.kind == 2 {
-        if c.code == 0 {
-            return Answer::Good;
-        }
-        return Answer::Refused(Reason::OperationInvalid);
+        return answer::refused_if(d.kind != 2, Reason::OperationInvalid);
     }
     if c.code == 0 {
         return Answer::Good;
     }
-    if d.kind == 0 {
-        return Answer::Refused(Reason::FieldInvalid);
+    if d.kind == 2 {
+        return Answer::Refused(Reason::OperationInvalid);
     }
-    Answer::Good
+    answer::refused_if(d.kind == 0, Reason::FieldInvalid)
 }
 
 fn code_rule(c: Command) -> Answer
     ensures { λ r. ⌜ r ≡ codeRule c ⌝ }
 {
-    if 0b101 < c.code {
-        return Answer::Refused(Reason::FieldInvalid);
-    }
-    Answer::Good
+    answer::refused_if(0b101 < c.code, Reason::FieldInvalid)
 }
 
 fn check_rule(c: Command) -> Answer
     ensures { λ r. ⌜ r ≡ checkRule c ⌝ }
 {
-    if c.check == 0 {
-        return Answer::Good;
-    }
-    Answer::Refused(Reason::FieldInvalid)
+    answer::refused_if(c.check != 0, Reason::FieldInvalid)
 }
 
 // The bytes that the transfer moves.
@@ -74,10 +59,7 @@ fn size_rule(d: Description, c: Command) -> Answer
     requires { ⌜ c .length ≤ 65536 ⌝ }
     ensures { λ r. ⌜ r ≡ sizeRule d c ⌝ }
 {
-    if 4294967295 < moved(d, c) {
-        return Answer::Refused(Reason::TransferTooLarge);
-    }
-    Answer::Good
+    answer::refused_if(4294967295 < moved(d, c), Reason::TransferTooLarge)
 }
 
 // The bytes that the buffer must have.
@@ -99,10 +81,7 @@ fn buffer_rule(d: Description, c: Command, lengths: Lengths) -> Answer
     requires { ⌜ c .length ≤ 65536 ⌝ }
     ensures { λ r. ⌜ r ≡ bufferRule d c lengths ⌝ }
 {
-    if lengths.buffer == buffer(d, c) {
-        return Answer::Good;
-    }
-    Answer::Refused(Reason::BufferLengthWrong)
+    answer::refused_if(lengths.buffer != buffer(d, c), Reason::BufferLengthWrong)
 }
 
 // The first refusal of a command's fields, or good.

@@ -1,7 +1,6 @@
 // What a transfer checks, on which side, and what it inserts: from the description and the command to the rules of judging, the first
 // tags and the marks of new fields.
 ghost use mathlib.Core.Path.{_≡_};
-ghost use mathlib.Core.Bool.{_&&_};
 ghost use Rattle.segment.specs.Segment.{Segment};
 ghost use Rattle.rules.specs.Rules.{columnsIn, columnsOf, applicationKnown, referenceKnown, firstTag, escapeOf, rulesOf, startOf};
 ghost use Rattle.rules.specs.Sides.{checksOn, checkedOn};
@@ -51,19 +50,10 @@ fn columns_of(code: u8) -> Columns
     }
 }
 
-fn both(a: bool, b: bool) -> bool
-    ensures { λ r. ⌜ r ≡ (a && b) ⌝ }
-{
-    if a {
-        return b;
-    }
-    false
-}
-
 fn application_known(d: Description, c: Command) -> bool
     ensures { λ r. ⌜ r ≡ applicationKnown d c ⌝ }
 {
-    both(c.long, d.ato == 1)
+    words::both(c.long, d.ato == 1)
 }
 
 fn reference_known(d: Description, c: Command) -> bool
@@ -103,8 +93,8 @@ pub fn rules(side: Side, d: Description, c: Command) -> Rules
     ensures { λ r. ⌜ r ≡ rulesOf side d c ⌝ }
 {
     let columns = columns_of(c.code);
-    let application = both(columns.application, application_known(d, c));
-    let reference = both(columns.reference, reference_known(d, c));
+    let application = words::both(columns.application, application_known(d, c));
+    let reference = words::both(columns.reference, reference_known(d, c));
     Rules {
         intervals: segment::intervals(d),
         size: segment::size(d),

@@ -3,8 +3,9 @@
 use mathlib.Core.Path.{_≡_}
 use mathlib.Core.Bool.{Bool, true, false, not}
 use Prim.Native.Nat.{ℕ}
-use borrow.Author.Tests.{eq-eqb, ne-eqb, eqb-true, not-false}
-use Rattle.answer.specs.Answer.{isGood}
+use borrow.Author.Tests.{eq-eqb, eqb-true, not-false}
+use lib.Dec.{eqb}
+use Rattle.answer.specs.Answer.{isGood, refusedIf}
 use Rattle.answer.specs.declared.Answer.{Answer}
 use Rattle.answer.specs.declared.Answer.the-variants as answers
 use Rattle.answer.specs.declared.Reason.the-variants as reasons
@@ -15,25 +16,18 @@ use Rattle.segment.specs.Rules.{descriptionRule, lengthRule, segmentRule
 use Rattle.segment.proofs.Laws.{segment-facts, is-segment}
 
 module _ (d : Description) where
-  pub description-good : isSegment d ≡ true → descriptionRule d ≡ answers.Good
-  unfolding descriptionRule
-  description-good e = rw e
-
-  pub description-bad : isSegment d ≡ false → descriptionRule d ≡ answers.Refused reasons.DescriptionBad
-  unfolding descriptionRule
-  description-bad e = rw e
-
   pub rule-described : isGood (descriptionRule d) ≡ true → Segment d
   unfolding descriptionRule
   rule-described e = segment-facts d (rw (not-false (isSegment d) (not-refused _ _ e)) tt)
 
   pub described-rule : Segment d → descriptionRule d ≡ answers.Good
-  described-rule s = description-good (is-segment d s)
+  unfolding descriptionRule
+  described-rule s = rw (is-segment d s)
 
   module _ (n : ℕ) where
-    pub length-wrong : descriptionRule d ≡ answers.Good → (n ≡ lengthOf d → ⊥) → segmentRules d n ≡ answers.Refused reasons.SegmentLengthWrong
-    unfolding segmentRules lengthRule
-    length-wrong g w = rw (g, ne-eqb n (lengthOf d) w)
+    pub length-told : (m : ℕ) (a : Answer) → a ≡ refusedIf (not (eqb n m)) reasons.SegmentLengthWrong → m ≡ lengthOf d → a ≡ lengthRule d n
+    unfolding lengthRule
+    length-told m a e l = rw l at e
 
     pub length-right : descriptionRule d ≡ answers.Good → n ≡ lengthOf d → segmentRules d n ≡ answers.Good
     unfolding segmentRules lengthRule

@@ -122,10 +122,7 @@ pub fn length(d: Description) -> usize
 pub fn description_rule(d: Description) -> Answer
     ensures { λ r. ⌜ r ≡ descriptionRule d ⌝ }
 {
-    if is_segment(d) {
-        return Answer::Good;
-    }
-    Answer::Refused(Reason::DescriptionBad)
+    answer::refused_if(!is_segment(d), Reason::DescriptionBad)
 }
 
 // Refusals 1 and 2, which every call on a segment of so many bytes begins with.
@@ -136,10 +133,7 @@ pub fn segment_rules(d: Description, bytes: usize) -> Answer
     if !answer::is_good(a) {
         return a;
     }
-    if bytes != length(d) {
-        return Answer::Refused(Reason::SegmentLengthWrong);
-    }
-    Answer::Good
+    answer::refused_if(bytes != length(d), Reason::SegmentLengthWrong)
 }
 
 // Refusal 7, of `count` blocks from `address` on that are not all of the segment.

@@ -10,13 +10,7 @@ use segment::Description;
 fn in_range(k: u64) -> bool
     ensures { λ r. ⌜ r ≡ inRange k ⌝ }
 {
-    if k < 1 {
-        return false;
-    }
-    if 16 < k {
-        return false;
-    }
-    true
+    words::both(1 <= k, k <= 16)
 }
 
 // Refusal 1, then 11 for type 0 and where the shape is not right.
@@ -27,13 +21,7 @@ fn stripe_rules(d: Description, shaped: bool) -> Answer
     if !answer::is_good(a) {
         return a;
     }
-    if d.kind == 0 {
-        return Answer::Refused(Reason::StripeShapeBad);
-    }
-    if !shaped {
-        return Answer::Refused(Reason::StripeShapeBad);
-    }
-    Answer::Good
+    answer::refused_if(!words::both(d.kind != 0, shaped), Reason::StripeShapeBad)
 }
 
 // Makes the parity of `k` members in `out`.

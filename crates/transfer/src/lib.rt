@@ -19,10 +19,7 @@ fn whole(d: Description, c: Command) -> bool
     if d.kind == 0 {
         return true;
     }
-    if c.code == 0 {
-        return false;
-    }
-    true
+    c.code != 0
 }
 
 // The first wrong interval of the blocks `s` of one side.

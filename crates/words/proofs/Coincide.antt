@@ -11,6 +11,7 @@ use Rattle.words.proofs.write2.Reads as write2-reads
 use Rattle.words.proofs.copy.Reads as copy-reads
 use Rattle.words.proofs.xor_into.Reads as xor-into-reads
 use Rattle.words.proofs.fill_with.Reads as fill-with-reads
+use Rattle.words.proofs.both.Reads as both-reads
 
 pub read-at : (κs : _) (a : _) (x y : _) (s t : _) → read-at-reads.Post κs a x s → read-at-reads.Post κs a y t → x ≡ y
 read-at κs a x y s t p q = p ∙ sym q
@@ -35,3 +36,6 @@ xor-into κs a x y s t p q = p ∙ sym q
 
 pub fill-with : (κs : _) (a : _) (x y : _) (s t : _) → fill-with-reads.Post κs a x s → fill-with-reads.Post κs a y t → now (s .0) ≡ now (t .0)
 fill-with κs a x y s t p q = p ∙ sym q
+
+pub both : (κs : _) (a : _) (x y : _) (s t : _) → both-reads.Post κs a x s → both-reads.Post κs a y t → x ≡ y
+both κs a x y s t p q = p ∙ sym q

@@ -1,5 +1,6 @@
-// Numbers in bytes, exclusive or, copying and filling: what knows nothing of disks.
+// Numbers in bytes, exclusive or, copying and filling, two tests: what knows nothing of disks.
 ghost use mathlib.Core.Path.{_≡_};
+ghost use mathlib.Core.Bool.{_&&_};
 ghost use Prim.Native.Nat.{_+_, _≤_};
 ghost use lib.ListN.{length, replicate};
 ghost use Rattle.words.specs.BigEndian.{number, numberAt, bytes};
@@ -101,4 +102,14 @@ pub fn fill_with(d: &mut [u8], b: u8)
         d[i] = b;
         i += 1;
     }
+}
+
+// Whether both hold.
+pub fn both(a: bool, b: bool) -> bool
+    ensures { λ r. ⌜ r ≡ (a && b) ⌝ }
+{
+    if a {
+        return b;
+    }
+    false
 }

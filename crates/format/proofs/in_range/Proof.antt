@@ -1,23 +1,19 @@
--- `format::in_range`: each test that fails decides, and the last return has passed them all.
+-- `format::in_range`: every limit is asked.
 -- Assumes nothing.
-use borrow.Author.Tests.{lt-leb, le-leb}
+use mathlib.Core.Path.{_≡_}
+use mathlib.Core.Bool.{Bool, _&&_}
+use Prim.Native.Nat.{ℕ}
+use lib.Dec.{leb}
+use Rattle.format.specs.Choice.{inRange}
+use borrow.Author.Needs.{needs}
 use Rattle.format.proofs.in_range.Statement.{statement}
 use Rattle.format.proofs.in_range.Tie as tie
 
+all : (s p f u : ℕ) (x y r : Bool) → x ≡ (leb f 3 && leb u 7) → y ≡ (leb p 1 && x) → r ≡ (leb s 7 && y) → r ≡ inRange s p f u
+all s p f u x y r e h g = rw (h, e) at g
+
 returns : tie.Need-returns
-returns c = rw (lt-leb _ 7 (c .if1 .taken))
-
-returns-2 : tie.Need-returns-2
-returns-2 c = rw (le-leb _ 7 (c .before .if1 .left), lt-leb _ 1 (c .if2 .taken))
-
-returns-3 : tie.Need-returns-3
-returns-3 c = rw (le-leb _ 7 (c .before .before .if1 .left), le-leb _ 1 (c .before .if2 .left), lt-leb _ 3 (c .if3 .taken))
-
-returns-4 : tie.Need-returns-4
-returns-4 c = rw (le-leb _ 7 (c .before .before .before .if1 .left), le-leb _ 1 (c .before .before .if2 .left), le-leb _ 3 (c .before .if3 .left), lt-leb _ 7 (c .if4 .taken))
-
-returns-5 : tie.Need-returns-5
-returns-5 c = rw (le-leb _ 7 (c .before .before .before .if1 .left), le-leb _ 1 (c .before .before .if2 .left), le-leb _ 3 (c .before .if3 .left), le-leb _ 7 (c .if4 .left))
+returns c = let given = c .before .before .before .args in all (given .spt) (given .protect) (given .fmtpinfo) (given .usage) _ _ _ (c .before .before .both .ensures) (c .before .both2 .ensures) (c .both3 .ensures)
 
 pub in-range-spec : {M : Type 1} → statement M
-in-range-spec = tie.close (tie.spec returns returns-2 returns-3 returns-4 returns-5)
+in-range-spec = tie.close (tie.spec (λ c κs. search needs) (λ c κs. search needs) (λ c κs. search needs) returns)

@@ -1,16 +1,12 @@
--- `refusal::buffer_rule`: the test decides.
+-- `refusal::buffer_rule`: the buffer's length decides.
 -- Assumes nothing.
-use mathlib.Core.Path.{sym, _∙_}
-use Rattle.refusal.proofs.Rules.{buffer-fits, buffer-unfit}
+use Rattle.refusal.proofs.Rules.{buffer-told}
 use borrow.Author.Needs.{needs}
 use Rattle.refusal.proofs.buffer_rule.Statement.{statement}
 use Rattle.refusal.proofs.buffer_rule.Tie as tie
 
 returns : tie.Need-returns
-returns c = sym (buffer-fits _ _ _ (c .if1 .taken ∙ c .before .before .buffer .ensures))
-
-returns-2 : tie.Need-returns-2
-returns-2 c = sym (buffer-unfit _ _ _ (λ e. c .if1 .left (e ∙ sym (c .before .before .buffer .ensures))))
+returns c = buffer-told _ _ _ _ (c .before .before .before .args .lengths) (c .refused-if .ensures) (c .before .before .buffer .ensures)
 
 pub buffer-rule-spec : {M : Type 1} → statement M
-buffer-rule-spec = tie.close (tie.spec (λ c κs. search needs) returns returns-2)
+buffer-rule-spec = tie.close (tie.spec (λ c κs. search needs) (λ c κs. search needs) returns)

@@ -1,15 +1,13 @@
--- `refusal::code_rule`: the test decides.
+-- `refusal::code_rule`: the code decides.
 -- Assumes nothing.
-use mathlib.Core.Path.{sym}
-use Rattle.refusal.proofs.Rules.{code-over, code-fits}
+use Rattle.refusal.specs.Refusal.{codeRule}
+use borrow.Author.Needs.{needs}
 use Rattle.refusal.proofs.code_rule.Statement.{statement}
 use Rattle.refusal.proofs.code_rule.Tie as tie
 
 returns : tie.Need-returns
-returns c = sym (code-over _ (c .if1 .taken))
-
-returns-2 : tie.Need-returns-2
-returns-2 c = sym (code-fits _ (c .if1 .left))
+unfolding codeRule
+returns c = c .refused-if .ensures
 
 pub code-rule-spec : {M : Type 1} → statement M
-code-rule-spec = tie.close (tie.spec returns returns-2)
+code-rule-spec = tie.close (tie.spec (λ c κs. search needs) returns)
