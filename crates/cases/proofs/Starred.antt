@@ -20,7 +20,7 @@ use Rattle.refusal.specs.Refusal.{longRule, otherRule, plainRule, typeRules, co
 use Rattle.admission.specs.Admission.{admitted}
 use Rattle.rules.specs.Rules.{columnsOf, applicationKnown, referenceKnown, firstTag, rulesOf, startOf}
 use Rattle.rules.specs.Sides.{checkedOn}
-use Rattle.rules.specs.Inserted.{insertedApplication, insertedReference, marksOf}
+use Rattle.marks.specs.Inserted.{insertedApplication, insertedReference, marksOf}
 use Rattle.transfer.specs.Transfer.{blocksOf, judgedOn, judged, whole, handed, received}
 use Rattle.execute.specs.Execute.{overwritten, moved, performed, executed}
 use Rattle.parity.specs.Parity.{xorParts, parityOf}

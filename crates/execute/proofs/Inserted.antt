@@ -35,7 +35,7 @@ use Rattle.insertion.proofs.Laws.{interval-length, block-length, interval-read-
 use Rattle.blocks.proofs.Pieces.{one-within, rest-within}
 use Rattle.words.proofs.Parts.{one-more, drop-more}
 use Rattle.rules.specs.Rules.{firstTag}
-use Rattle.rules.specs.Inserted.{insertedReference, marksOf}
+use Rattle.marks.specs.Inserted.{insertedReference, marksOf}
 use Rattle.admission.specs.Ready.{Ready}
 use Rattle.execute.specs.Lent.{Lent, lengthsOf}
 use Rattle.transfer.specs.Transfer.{blocksOf, received}

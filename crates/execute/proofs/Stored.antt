@@ -19,7 +19,7 @@ use Rattle.blocks.specs.Blocks.{userData}
 use Rattle.insertion.specs.Insertion.{storedBlocks}
 use Rattle.insertion.proofs.Laws.{blocks-length, blocks-read}
 use Rattle.blocks.proofs.Places.{put-before, put-there, put-behind}
-use Rattle.rules.specs.Inserted.{marksOf}
+use Rattle.marks.specs.Inserted.{marksOf}
 use Rattle.refusal.specs.Refusal.{isVerify, movedOf}
 use Rattle.refusal.proofs.Rules.{room-moved}
 use Rattle.admission.specs.Ready.{Ready}

@@ -11,7 +11,7 @@ use Rattle.segment.specs.Segment.{intervalsOf, sizeOf}
 use Rattle.segment.specs.Places.{intervalAt}
 use Rattle.command.specs.declared.Command.{Command}
 use Rattle.field.specs.Field.{storedGuard, storedApplication, storedReference, dataOf, fieldOf}
-use Rattle.rules.specs.Inserted.{insertedApplication}
+use Rattle.marks.specs.Inserted.{insertedApplication}
 use Rattle.rules.specs.Intervals.{placeAt}
 
 -- "reference as expected above, except type 2 with 10, 12 or 16 bytes, where it is (address of the block × n + interval in the

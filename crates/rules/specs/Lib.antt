@@ -1,4 +1,3 @@
 pub mod Rules
 pub mod Sides
-pub mod Inserted
 pub mod Intervals

@@ -23,7 +23,7 @@ use Rattle.rules.specs.declared.Side.{Side}
 use Rattle.rules.specs.Rules.{rulesOf, startOf}
 use Rattle.rules.specs.Sides.{checksOn, checkedOn}
 use Rattle.rules.proofs.Laws.{checks-all, checked-all}
-use Rattle.rules.specs.Inserted.{marksOf}
+use Rattle.marks.specs.Inserted.{marksOf}
 use Rattle.insertion.specs.declared.Marks.{Marks}
 use Rattle.blocks.specs.Blocks.{userData}
 use Rattle.insertion.specs.Insertion.{storedBlocks}

@@ -16,7 +16,7 @@ use Rattle.rules.specs.declared.Side.{Side}
 use Rattle.rules.specs.declared.Side.the-variants.{Sent, Stored}
 use Rattle.rules.specs.Rules.{rulesOf, startOf}
 use Rattle.rules.specs.Sides.{checkedOn}
-use Rattle.rules.specs.Inserted.{marksOf}
+use Rattle.marks.specs.Inserted.{marksOf}
 
 -- "the transfer's blocks"
 unfoldable pub blocksOf : Description → Command → List ℕ → List ℕ

@@ -91,6 +91,6 @@ pub fn store(
     }
     let size = segment::size(d);
     let intervals = segment::intervals(d);
-    let marks = rules::marks(d, c);
+    let marks = marks::marks(d, c);
     insertion::insert_blocks(t, segment, at, buffer, size, intervals, count, marks);
 }

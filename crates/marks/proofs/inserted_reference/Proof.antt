@@ -1,13 +1,13 @@
--- `rules::inserted_reference`: the type and the size of the command decide.
+-- `marks::inserted_reference`: the type and the size of the command decide.
 -- Assumes nothing.
 use native.Mathlib.Nat.{mod-lt}
 use lib.Dec.{lit<}
 use mathlib.Core.Path.{sym}
 use native.Mathlib.Omega.{arith}
-use Rattle.rules.proofs.Laws.{inserted-one, inserted-tag, inserted-address, inserted-none, product-small}
+use Rattle.marks.proofs.Laws.{inserted-one, inserted-tag, inserted-address, inserted-none, product-small}
 use borrow.Author.Needs.{needs}
-use Rattle.rules.proofs.inserted_reference.Statement.{statement}
-use Rattle.rules.proofs.inserted_reference.Tie as tie
+use Rattle.marks.proofs.inserted_reference.Statement.{statement}
+use Rattle.marks.proofs.inserted_reference.Tie as tie
 
 returns : tie.Need-returns
 returns c = sym (inserted-one _ _ (c .before .if1 .taken))

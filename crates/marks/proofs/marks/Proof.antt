@@ -1,10 +1,10 @@
--- `rules::marks`: field by field.
+-- `marks::marks`: field by field.
 -- Assumes nothing.
 use borrow.Author.Tests.{ne-eqb}
-use Rattle.rules.proofs.Laws.{marks-are}
+use Rattle.marks.proofs.Laws.{marks-are}
 use borrow.Author.Needs.{needs}
-use Rattle.rules.proofs.marks.Statement.{statement}
-use Rattle.rules.proofs.marks.Tie as tie
+use Rattle.marks.proofs.marks.Statement.{statement}
+use Rattle.marks.proofs.marks.Tie as tie
 
 returns : tie.Need-returns
 returns c = marks-are _ _ _ _ 0 (c .before .before .inserted-application .ensures) (c .before .inserted-reference .ensures) (rw (c .if1 .taken))

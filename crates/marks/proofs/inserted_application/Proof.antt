@@ -1,9 +1,9 @@
--- `rules::inserted_application`: ATO and the size of the command decide.
+-- `marks::inserted_application`: ATO and the size of the command decide.
 -- Assumes nothing.
 use mathlib.Core.Path.{sym}
-use Rattle.rules.proofs.Laws.{application-off, application-tag, application-none}
-use Rattle.rules.proofs.inserted_application.Statement.{statement}
-use Rattle.rules.proofs.inserted_application.Tie as tie
+use Rattle.marks.proofs.Laws.{application-off, application-tag, application-none}
+use Rattle.marks.proofs.inserted_application.Statement.{statement}
+use Rattle.marks.proofs.inserted_application.Tie as tie
 
 returns : tie.Need-returns
 returns c = sym (application-off _ _ (c .if1 .taken))
