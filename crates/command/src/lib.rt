@@ -1,7 +1,7 @@
 // From a command's bytes to what it asks for, by value; or the refusal.
 ghost use mathlib.Core.Path.{_≡_};
 ghost use lib.ListN.{length};
-ghost use Rattle.command.specs.Command.{checkBits, recognise, laid, layoutOf, isLong, fields, decodeAs, decode};
+ghost use Rattle.command.specs.Command.{byteZero, serviceAction, find, checkBits, recognise, laid, layoutOf, isLong, fields, decodeAs, decode};
 ghost use Rattle.command.specs.Sixteen.{sixteen};
 use answer::Reason;
 
@@ -53,14 +53,10 @@ pub enum Decoded {
     Refused(Reason),
 }
 
-// The operation and the form that byte 0, or the service action, names.
-fn recognise(c: &[u8]) -> Named
-    ensures { λ r. ⌜ r ≡ recognise (now (c .entry)) ⌝ }
+// The operation and the form that byte 0 names, of the three shorter forms.
+fn by_byte(first: u8) -> Named
+    ensures { λ r. ⌜ r ≡ find first byteZero ⌝ }
 {
-    if c.len() == 0 {
-        return Named::Unknown(Reason::CommandLengthWrong);
-    }
-    let first = c[0];
     match first {
         0x28 => Named::Known(Operation::Read, Form::Ten),
         0x2A => Named::Known(Operation::Write, Form::Ten),
@@ -71,20 +67,36 @@ fn recognise(c: &[u8]) -> Named
         0x88 => Named::Known(Operation::Read, Form::Sixteen),
         0x8A => Named::Known(Operation::Write, Form::Sixteen),
         0x8F => Named::Known(Operation::Verify, Form::Sixteen),
-        0x7F => {
-            if c.len() < 10 {
-                return Named::Unknown(Reason::CommandLengthWrong);
-            }
-            let action = words::read2(c, 8);
-            match action {
-                0x0009 => Named::Known(Operation::Read, Form::ThirtyTwo),
-                0x000B => Named::Known(Operation::Write, Form::ThirtyTwo),
-                0x000A => Named::Known(Operation::Verify, Form::ThirtyTwo),
-                _ => Named::Unknown(Reason::OperationInvalid),
-            }
-        }
         _ => Named::Unknown(Reason::OperationInvalid),
     }
+}
+
+// And that the service action names, of the longest.
+fn by_action(action: u16) -> Named
+    ensures { λ r. ⌜ r ≡ find action serviceAction ⌝ }
+{
+    match action {
+        0x0009 => Named::Known(Operation::Read, Form::ThirtyTwo),
+        0x000B => Named::Known(Operation::Write, Form::ThirtyTwo),
+        0x000A => Named::Known(Operation::Verify, Form::ThirtyTwo),
+        _ => Named::Unknown(Reason::OperationInvalid),
+    }
+}
+
+// The operation and the form of a command.
+fn recognise(c: &[u8]) -> Named
+    ensures { λ r. ⌜ r ≡ recognise (now (c .entry)) ⌝ }
+{
+    if c.len() == 0 {
+        return Named::Unknown(Reason::CommandLengthWrong);
+    }
+    if c[0] != 0x7F {
+        return by_byte(c[0]);
+    }
+    if c.len() < 10 {
+        return Named::Unknown(Reason::CommandLengthWrong);
+    }
+    by_action(words::read2(c, 8))
 }
 
 fn laid(

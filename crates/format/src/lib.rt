@@ -35,19 +35,8 @@ fn by_usage(usage: u64, wanted: u64, kind: u64) -> Choice
 fn supports(protect: u64, spt: u64) -> bool
     ensures { λ r. ⌜ r ≡ supports protect spt ⌝ }
 {
-    if protect == 0 {
-        return false;
-    }
-    if spt == 0 {
-        return true;
-    }
-    if spt == 1 {
-        return true;
-    }
-    if spt == 3 {
-        return true;
-    }
-    false
+    let listed = words::either(spt == 0, words::either(spt == 1, spt == 3));
+    words::both(protect != 0, listed)
 }
 
 fn in_range(spt: u64, protect: u64, fmtpinfo: u64, usage: u64) -> bool

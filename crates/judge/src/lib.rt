@@ -34,7 +34,7 @@ pub fn next_block(n: usize, p: Place) -> Place
     place_on(p, 1, n, std::num::wrapping_add_u32(p.tag, n as u32))
 }
 
-// The first wrong one of `count` intervals of a block. Its place is worked out from the intervals that are left, the tag alone goes
+// The first wrong one of `count` intervals of a block. Its place is worked out from those that are left; the tag alone goes
 // on from turn to turn.
 pub fn judge_intervals(t: &[u16; 256], r: Rules, p: Place, count: usize, s: &[u8]) -> Answer
     requires { ⌜ Right (now t) ⌝ }
@@ -53,7 +53,7 @@ pub fn judge_intervals(t: &[u16; 256], r: Rules, p: Place, count: usize, s: &[u8
         if !answer::is_good(a) {
             return a;
         }
-        tag = std::num::wrapping_add_u32(tag, 1);
+        tag = next_interval(here).tag;
         i = end;
         left -= 1;
     }
@@ -92,7 +92,7 @@ pub fn judge_blocks(t: &[u16; 256], r: Rules, p: Place, count: usize, s: &[u8]) 
         if !answer::is_good(a) {
             return a;
         }
-        tag = std::num::wrapping_add_u32(tag, n as u32);
+        tag = next_block(n, here).tag;
         i = end;
         left -= 1;
     }

@@ -23,18 +23,6 @@ no-code n a b c d e f = rw (ne-eqb n 0 a, ne-eqb n 1 b, ne-eqb n 2 c, ne-eqb n 3
 
 module _ (d : Description) (c : Command) where
   -- ---- what is known
-  pub reference-one : d .kind ≡ 1 → referenceKnown d c ≡ true
-  unfolding referenceKnown
-  reference-one k = rw k
-
-  pub reference-two : d .kind ≡ 2 → referenceKnown d c ≡ c .long
-  unfolding referenceKnown
-  reference-two k = rw k
-
-  pub reference-none : (d .kind ≡ 1 → ⊥) → (d .kind ≡ 2 → ⊥) → referenceKnown d c ≡ false
-  unfolding referenceKnown
-  reference-none a b = rw (ne-eqb (d .kind) 1 a, ne-eqb (d .kind) 2 b)
-
   pub tag-one : d .kind ≡ 1 → firstTag d c ≡ c .address % 2 ^ 32
   unfolding firstTag
   tag-one k = rw (eq-eqb (d .kind) 1 k)

@@ -56,13 +56,7 @@ fn application_known(d: Description, c: Command) -> bool
 fn reference_known(d: Description, c: Command) -> bool
     ensures { λ r. ⌜ r ≡ referenceKnown d c ⌝ }
 {
-    if d.kind == 1 {
-        return true;
-    }
-    if d.kind == 2 {
-        return c.long;
-    }
-    false
+    words::either(d.kind == 1, words::both(d.kind == 2, c.long))
 }
 
 fn first_tag(d: Description, c: Command) -> u32

@@ -68,13 +68,6 @@ is-segment d s =
 pub segment-test : (d : Description) → Segment d → T (isSegment d)
 segment-test d s = rw (is-segment d s) tt
 
-is-false : (b : Bool) → (T b → ⊥) → b ≡ false
-is-false true n = absurd (n tt)
-is-false false n = refl
-
-pub not-segment : (d : Description) → (Segment d → ⊥) → isSegment d ≡ false
-not-segment d n = is-false (isSegment d) (λ t. n (segment-facts d t))
-
 -- ---- the sizes
 
 -- a block cut into 2 ^ e parts, e at most 3: nothing is left over

@@ -1,6 +1,7 @@
 // The description of a segment, by value: which descriptions are segments, the sizes that follow, and where blocks lie.
 ghost use mathlib.Core.Path.{_≡_};
-ghost use Prim.Native.Nat.{_+_, _≤_};
+ghost use Prim.Native.Nat.{_+_, _^_, _≤_};
+ghost use lib.Dec.{leb};
 ghost use Rattle.segment.specs.Segment.{described, isSegment, Segment, intervalsOf, sizeOf, storedOf, lengthOf};
 ghost use Rattle.segment.specs.Rules.{descriptionRule, segmentRules};
 ghost use Rattle.segment.specs.Places.{rangeRule, offsetOf, spanOf};
@@ -38,49 +39,28 @@ pub fn described(
     }
 }
 
+// Whether an address and a count add up to at most 2^63, as whole numbers.
+fn ends(first: u64, count: u64) -> bool
+    ensures { λ r. ⌜ r ≡ leb (first + count) (2 ^ 63) ⌝ }
+{
+    if 0x8000_0000_0000_0000 < count {
+        return false;
+    }
+    first <= 0x8000_0000_0000_0000 - count
+}
+
 // Whether the numbers describe a segment.
 fn is_segment(d: Description) -> bool
     ensures { λ r. ⌜ r ≡ isSegment d ⌝ }
 {
-    let kind = d.kind;
-    let block = d.block;
-    let exponent = d.exponent;
-    let first = d.first;
-    let count = d.count;
-    let ato = d.ato;
-    if 3 < kind {
-        return false;
-    }
-    if 1 < ato {
-        return false;
-    }
-    if block < 8 {
-        return false;
-    }
-    if 4096 < block {
-        return false;
-    }
-    if block % 8 != 0 {
-        return false;
-    }
-    if 3 < exponent {
-        return false;
-    }
-    if kind < 2 {
-        if exponent != 0 {
-            return false;
-        }
-    }
-    if count < 1 {
-        return false;
-    }
-    if 65536 < count {
-        return false;
-    }
-    if 0x8000_0000_0000_0000 - count < first {
-        return false;
-    }
-    true
+    let bits = words::both(d.kind <= 3, d.ato <= 1);
+    let block = words::both(8 <= d.block, words::both(d.block <= 4096, d.block % 8 == 0));
+    let power = words::both(d.exponent <= 3, words::either(d.exponent == 0, 2 <= d.kind));
+    let count = words::both(
+        1 <= d.count,
+        words::both(d.count <= 65536, ends(d.first, d.count)),
+    );
+    words::both(words::both(bits, block), words::both(power, count))
 }
 
 // The intervals of a block.

@@ -21,7 +21,7 @@ use Rattle.parity.specs.Parity.{xorParts, parityOf, rebuiltOf, correctedOf}
 use Rattle.parity.specs.Stretch.{joined}
 use Rattle.stripe.specs.Stripe.{stripeRules, inRange, made, rebuilt, corrected}
 use Rattle.stripe.specs.Fit.{Making, Rebuilding, Correcting}
-use Rattle.stripe.proofs.Ladder.{range-facts, range-true, same, rules-good, rules-bad, rules-facts, passed, stopped}
+use Rattle.stripe.proofs.Ladder.{range-facts, range-true, same, equal, unequal, equal-three, unequal-three, rules-good, rules-bad, rules-facts, passed, stopped}
 
 good-is : (rule : Answer) (old new : List ℕ) → rule ≡ answers.Good → leaving rule old new ≡ outcome answers.Good new
 good-is rule old new e = sym (leaves rule old new e refl)
@@ -66,15 +66,20 @@ module _ (d : Description) (k : ℕ) (s out : List ℕ) where
     make-stopped = stopped d (inRange k) a g e t _ out _
 
     module _ (long : ℕ) (l : long ≡ lengthOf d) (n : not g ≡ false) where
-      pub make-unfit : (length s ≡ k * long → length out ≡ long → ⊥) → outcome (answers.Refused reasons.StripeShapeBad) out ≡ made d k s out
+      pub make-unfit : (b : Bool) → b ≡ (eqb (length s) (k * long) && eqb (length out) long) → not b ≡ true → outcome (answers.Refused reasons.StripeShapeBad) out ≡ made d k s out
       unfolding made
-      make-unfit h =
+      make-unfit b asked f =
+          let h = unequal (length s) (k * long) (length out) long b asked f in
           let segment = passed d (inRange k) a g e t n .0 in
           refuses _ out _ (rules-bad d _ segment (λ typed shaped. let m = making segment typed shaped in h (m .whole ∙ ap (λ (x : ℕ). k * x) (sym l)) (m .room ∙ sym l)))
 
-      pub make-good : (new : List ℕ) → length s ≡ k * long → length out ≡ long → new ≡ joined (length out) k s 0 [] → outcome answers.Good new ≡ made d k s out
+      pub make-good : (b : Bool) → b ≡ (eqb (length s) (k * long) && eqb (length out) long) → not b ≡ false
+          → (new : List ℕ) → new ≡ joined (length out) k s 0 [] → outcome answers.Good new ≡ made d k s out
       unfolding joined xorParts
-      make-good new whole room is =
+      make-good b asked f new is =
+          let two = equal (length s) (k * long) (length out) long b asked f in
+          let whole = two .0 in
+          let room = two .1 in
           let p = passed d (inRange k) a g e t n in
           let count = range-facts k (p .1 .1) in
           ap (outcome answers.Good) (is ∙ ap (λ (x : ℕ). parityOf x k s) (room ∙ l))
@@ -126,12 +131,17 @@ module _ (d : Description) (k lost : ℕ) (s out : List ℕ) where
           refuses _ out _ (rules-bad d _ segment (λ typed shaped. h (rebuilding segment typed shaped)))
 
       module _ (long : ℕ) (l : long ≡ lengthOf d) where
-        pub rebuild-unfit : (length s ≡ (k + 1) * long → length out ≡ long → ⊥) → outcome (answers.Refused reasons.StripeShapeBad) out ≡ rebuilt d k lost s out
-        rebuild-unfit h = rebuild-refused (λ m. h (m .whole ∙ ap (λ (x : ℕ). (k + 1) * x) (sym l)) (m .room ∙ sym l))
+        pub rebuild-unfit : (b : Bool) → b ≡ (eqb (length s) ((k + 1) * long) && eqb (length out) long) → not b ≡ true → outcome (answers.Refused reasons.StripeShapeBad) out ≡ rebuilt d k lost s out
+        rebuild-unfit b asked f =
+            let h = unequal (length s) ((k + 1) * long) (length out) long b asked f in
+            rebuild-refused (λ m. h (m .whole ∙ ap (λ (x : ℕ). (k + 1) * x) (sym l)) (m .room ∙ sym l))
 
-        pub rebuild-good : (new : List ℕ) → lost ≤ k → length s ≡ (k + 1) * long → length out ≡ long → new ≡ rebuiltOf (length out) k lost s
-            → outcome answers.Good new ≡ rebuilt d k lost s out
-        rebuild-good new among whole room is =
+        pub rebuild-good : (b : Bool) → b ≡ (eqb (length s) ((k + 1) * long) && eqb (length out) long) → not b ≡ false
+            → (new : List ℕ) → lost ≤ k → new ≡ rebuiltOf (length out) k lost s → outcome answers.Good new ≡ rebuilt d k lost s out
+        rebuild-good b asked f new among is =
+            let two = equal (length s) ((k + 1) * long) (length out) long b asked f in
+            let whole = two .0 in
+            let room = two .1 in
             let p = passed d (inRange k) a g e t n in
             let count = range-facts k (p .1 .1) in
             ap (outcome answers.Good) (is ∙ ap (λ (x : ℕ). rebuiltOf x k lost s) (room ∙ l))
@@ -179,17 +189,23 @@ module _ (d : Description) (old new parity : List ℕ) where
         stopped d true a g e t (eqb (length old) (lengthOf d) && (eqb (length new) (lengthOf d) && eqb (length parity) (lengthOf d))) parity _
 
     module _ (long : ℕ) (l : long ≡ lengthOf d) (n : not g ≡ false) where
-      pub correct-unfit : (length old ≡ long → length new ≡ long → length parity ≡ long → ⊥) → outcome (answers.Refused reasons.StripeShapeBad) parity ≡ corrected d old new parity
+      pub correct-unfit : (m b : Bool) → m ≡ (eqb (length old) long && eqb (length new) long) → b ≡ (m && eqb (length parity) long) → not b ≡ true
+          → outcome (answers.Refused reasons.StripeShapeBad) parity ≡ corrected d old new parity
       unfolding corrected
-      correct-unfit h =
+      correct-unfit m b members asked f =
+          let h = unequal-three (length old) (length new) (length parity) long m b members asked f in
           let segment = passed d true a g e t n .0 in
           refuses _ parity _
           (rules-bad d _ segment (λ typed shaped. let m = correcting segment typed shaped in h (m .old-whole ∙ sym l) (m .new-whole ∙ sym l) (m .room ∙ sym l)))
 
-      pub correct-good : (left : List ℕ) → length old ≡ long → length new ≡ long → length parity ≡ long → left ≡ xors (xors parity old) new
-          → outcome answers.Good left ≡ corrected d old new parity
+      pub correct-good : (m b : Bool) → m ≡ (eqb (length old) long && eqb (length new) long) → b ≡ (m && eqb (length parity) long) → not b ≡ false
+          → (left : List ℕ) → left ≡ xors (xors parity old) new → outcome answers.Good left ≡ corrected d old new parity
       unfolding correctedOf
-      correct-good left old-whole new-whole room is =
+      correct-good m b members asked f left is =
+          let all = equal-three (length old) (length new) (length parity) long m b members asked f in
+          let old-whole = all .0 in
+          let new-whole = all .1 in
+          let room = all .2 in
           let p = passed d true a g e t n in
           ap (outcome answers.Good) is
           ∙ sym

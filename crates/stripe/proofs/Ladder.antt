@@ -34,11 +34,46 @@ unfolding inRange
 range-true k l h = and-true (leb 1 k) (leb k 16) (le→leb 1 k l) (le→leb k 16 h)
 
 -- what is as long as k parts, and what is as long as one
-pub parts-long : (k : ℕ) {n long one : ℕ} → n ≡ k * long → one ≡ long → k * one ≡ n
+parts-long : (k : ℕ) {n long one : ℕ} → n ≡ k * long → one ≡ long → k * one ≡ n
 parts-long k e h = ap (λ (l : ℕ). k * l) h ∙ sym e
 
 pub same : (a b : ℕ) → a ≡ b → T (eqb a b)
 same a b e = rw e (eqb-refl b)
+
+-- two tests that were asked at once
+pub is-true : (b : Bool) → T b → b ≡ true
+is-true true t = refl
+is-true false t = absurd t
+
+pub equal : (a x b y : ℕ) (r : Bool) → r ≡ (eqb a x && eqb b y) → not r ≡ false → (a ≡ x) × (b ≡ y)
+equal a x b y r e n =
+    let t : T (eqb a x && eqb b y) = rw (← e, not-false r n) tt in
+    (eqb→eq a x (and-left (eqb a x) (eqb b y) t), eqb→eq b y (and-right (eqb a x) (eqb b y) t))
+
+pub unequal : (a x b y : ℕ) (r : Bool) → r ≡ (eqb a x && eqb b y) → not r ≡ true → a ≡ x → b ≡ y → ⊥
+unequal a x b y r e n p q =
+    let all : r ≡ true = e ∙ is-true _ (and-true (eqb a x) (eqb b y) (same a x p) (same b y q)) in
+    true≢false (sym n ∙ ap not all)
+
+pub parts-told : (k n long one : ℕ) (r : Bool) → r ≡ (eqb n (k * long) && eqb one long) → not r ≡ false → k * one ≡ n
+parts-told k n long one r e f = let two = equal n (k * long) one long r e f in parts-long k (two .0) (two .1)
+
+-- and a third behind the two
+module _ (a b c x : ℕ) (m r : Bool) (two : m ≡ (eqb a x && eqb b x)) (three : r ≡ (m && eqb c x)) where
+  pub equal-three : not r ≡ false → (a ≡ x) × (b ≡ x) × (c ≡ x)
+  equal-three f =
+      let t : T (m && eqb c x) = rw (← three, not-false r f) tt in
+      let first = equal a x b x m two (ap not (is-true m (and-left m (eqb c x) t))) in
+      (first .0, first .1, eqb→eq c x (and-right m (eqb c x) t))
+
+  pub unequal-three : not r ≡ true → a ≡ x → b ≡ x → c ≡ x → ⊥
+  unequal-three f p q u =
+      let first : m ≡ true = two ∙ is-true _ (and-true (eqb a x) (eqb b x) (same a x p) (same b x q)) in
+      let all : r ≡ true = three ∙ is-true _ (and-true m (eqb c x) (rw first tt) (same c x u)) in
+      true≢false (sym f ∙ ap not all)
+
+  pub members-told : not r ≡ false → (a ≡ c) × (b ≡ c)
+  members-told f = let all = equal-three f in (all .0 ∙ sym (all .2), all .1 ∙ sym (all .2))
 
 -- ---- the rules
 module _ (d : Description) (shaped : Bool) where

@@ -34,10 +34,7 @@ pub fn make(d: Description, k: u64, members: &[u8], out: &mut [u8]) -> Answer
     }
     let count = k as usize;
     let long = segment::length(d);
-    if members.len() != count * long {
-        return Answer::Refused(Reason::StripeShapeBad);
-    }
-    if out.len() != long {
+    if !words::both(members.len() == count * long, out.len() == long) {
         return Answer::Refused(Reason::StripeShapeBad);
     }
     parity::join(out, members, count, &members[..0], 0);
@@ -57,10 +54,7 @@ pub fn rebuild(d: Description, k: u64, lost: u64, parts: &[u8], out: &mut [u8]) 
     }
     let count = k as usize;
     let long = segment::length(d);
-    if parts.len() != (count + 1) * long {
-        return Answer::Refused(Reason::StripeShapeBad);
-    }
-    if out.len() != long {
+    if !words::both(parts.len() == (count + 1) * long, out.len() == long) {
         return Answer::Refused(Reason::StripeShapeBad);
     }
     parity::rebuild(out, parts, count, lost as usize);
@@ -76,13 +70,8 @@ pub fn correct(d: Description, old: &[u8], new: &[u8], parity: &mut [u8]) -> Ans
         return a;
     }
     let long = segment::length(d);
-    if old.len() != long {
-        return Answer::Refused(Reason::StripeShapeBad);
-    }
-    if new.len() != long {
-        return Answer::Refused(Reason::StripeShapeBad);
-    }
-    if parity.len() != long {
+    let members = words::both(old.len() == long, new.len() == long);
+    if !words::both(members, parity.len() == long) {
         return Answer::Refused(Reason::StripeShapeBad);
     }
     parity::xor_two(parity, old, new);

@@ -33,10 +33,6 @@ use Rattle.transfer.specs.Transfer.{whole, judgedOn, handed, received}
 use Rattle.transfer.specs.Inner.{Shaped, Sided, Fitted}
 
 -- ---- whole blocks or user data
-pub whole-plain : (d : Description) (c : Command) → d .kind ≡ 0 → whole d c ≡ true
-unfolding whole
-whole-plain d c k = rw (eq-eqb (d .kind) 0 k)
-
 pub whole-code : (d : Description) (c : Command) → (d .kind ≡ 0 → ⊥) → (c .code ≡ 0 → ⊥) → whole d c ≡ true
 unfolding whole
 whole-code d c k n = rw (ne-eqb (d .kind) 0 k, ne-eqb (c .code) 0 n)

@@ -16,10 +16,7 @@ use segment::Description;
 fn whole(d: Description, c: Command) -> bool
     ensures { λ r. ⌜ r ≡ whole d c ⌝ }
 {
-    if d.kind == 0 {
-        return true;
-    }
-    c.code != 0
+    words::either(d.kind == 0, c.code != 0)
 }
 
 // The first wrong interval of the blocks `s` of one side.

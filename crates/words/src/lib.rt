@@ -1,6 +1,6 @@
 // Numbers in bytes, exclusive or, copying and filling, two tests: what knows nothing of disks.
 ghost use mathlib.Core.Path.{_≡_};
-ghost use mathlib.Core.Bool.{_&&_};
+ghost use mathlib.Core.Bool.{_&&_, _||_};
 ghost use Prim.Native.Nat.{_+_, _≤_};
 ghost use lib.ListN.{length, replicate};
 ghost use Rattle.words.specs.BigEndian.{number, numberAt, bytes};
@@ -112,4 +112,14 @@ pub fn both(a: bool, b: bool) -> bool
         return b;
     }
     false
+}
+
+// Whether either holds.
+pub fn either(a: bool, b: bool) -> bool
+    ensures { λ r. ⌜ r ≡ (a || b) ⌝ }
+{
+    if a {
+        return true;
+    }
+    b
 }

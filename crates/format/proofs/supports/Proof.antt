@@ -1,23 +1,21 @@
--- `format::supports`: each test decides.
+-- `format::supports`: PROTECT, and one of three numbers.
 -- Assumes nothing.
-use borrow.Author.Tests.{ne-eqb}
+use mathlib.Core.Path.{_≡_, _∙_}
+use mathlib.Core.Bool.{Bool, not, _&&_, _||_, or-false}
+use Prim.Native.Nat.{ℕ}
+use lib.Dec.{eqb}
+use Rattle.format.specs.Choice.{supports}
+use borrow.Author.Needs.{needs}
 use Rattle.format.proofs.supports.Statement.{statement}
 use Rattle.format.proofs.supports.Tie as tie
 
+supported : (p s : ℕ) (last listed r : Bool) → last ≡ (eqb s 1 || eqb s 3) → listed ≡ (eqb s 0 || last) → r ≡ (not (eqb p 0) && listed) → r ≡ supports p s
+supported p s last listed r e f g = g ∙ rw (f, e, or-false (eqb s 3))
+
 returns : tie.Need-returns
-returns c = rw (c .if1 .taken)
-
-returns-2 : tie.Need-returns-2
-returns-2 c = rw (ne-eqb _ 0 (c .before .if1 .left), c .if2 .taken)
-
-returns-3 : tie.Need-returns-3
-returns-3 c = rw (ne-eqb _ 0 (c .before .before .if1 .left), c .if3 .taken)
-
-returns-4 : tie.Need-returns-4
-returns-4 c = rw (ne-eqb _ 0 (c .before .before .before .if1 .left), c .if4 .taken)
-
-returns-5 : tie.Need-returns-5
-returns-5 c = rw (ne-eqb _ 0 (c .before .before .before .if1 .left), ne-eqb _ 0 (c .before .before .if2 .left), ne-eqb _ 1 (c .before .if3 .left), ne-eqb _ 3 (c .if4 .left))
+returns c =
+    let given = c .before .before .before .args in
+    supported (given .protect) (given .spt) _ _ _ (c .before .before .either .ensures) (c .before .either2 .ensures) (c .both .ensures)
 
 pub supports-spec : {M : Type 1} → statement M
-supports-spec = tie.close (tie.spec returns returns-2 returns-3 returns-4 returns-5)
+supports-spec = tie.close (tie.spec (λ c κs. search needs) (λ c κs. search needs) (λ c κs. search needs) returns)

@@ -17,7 +17,7 @@ use Rattle.interval.specs.declared.Place.{Place}
 use Rattle.judge.specs.FirstOf.{firstOf}
 use Rattle.judge.specs.Judge.{judgeBlock, judgeBlocks, placeOn, nextBlock, Run}
 use Rattle.judge.proofs.FirstLaws.{first-next, first-stop, first-end}
-use Rattle.judge.proofs.BlockLaws.{own-block, first-within, first-run, rest-run, block-fits}
+use Rattle.judge.proofs.BlockLaws.{own-block, first-within, first-run, first-room, rest-run, block-fits}
 use borrow.Author.Needs.{needs}
 use Rattle.judge.proofs.judge_blocks.Statement.{statement}
 use Rattle.judge.proofs.judge_blocks.Tie as tie
@@ -49,6 +49,10 @@ module _ {r : Rules} {count : ℕ} {p : Place} {s : List ℕ} {left tag i : ℕ}
   first : Run r 1 (placeOn p (count - left) ((count - left) * r .intervals) tag) (take (i + r .intervals * (r .size + 8) - i) (drop i s))
   first = first-run s i (g .run) h
 
+  more : {here : Place} → here ≡ placeOn p (count - left) ((count - left) * r .intervals) tag
+      → (r .intervals ≤ 8) × (here .interval + r .intervals ≤ 2 ^ 32) × (here .address < 2 ^ 63)
+  more w = rw w (first-room s i (g .run) h)
+
   module _ {here : Place} {a : Answer} {b : Bool} (w : here ≡ placeOn p (count - left) ((count - left) * r .intervals) tag)
       (m : a ≡ judgeBlock r here (take (i + r .intervals * (r .size + 8) - i) (drop i s))) (t : b ≡ isGood a) where
     judged : a ≡ judgeBlock r (placeOn p (count - left) ((count - left) * r .intervals) tag) (drop i s)
@@ -57,10 +61,11 @@ module _ {r : Rules} {count : ℕ} {p : Place} {s : List ℕ} {left tag i : ℕ}
     stop : not b ≡ true → a ≡ judgeBlocks r count p s
     stop f = first-stop (judgeBlock r) (nextBlock (r .intervals)) _ left i _ s a _ h judged (sym t ∙ not-true b f) (g .same)
 
-    turn : {next : ℕ} → not b ≡ false → next ≡ (tag + r .intervals) % 2 ^ 32 → Going r count p s (left - 1) next (i + r .intervals * (r .size + 8))
-    turn o e =
+    turn : {there : Place} → not b ≡ false → there ≡ nextBlock (r .intervals) here → Going r count p s (left - 1) (there .tag) (i + r .intervals * (r .size + 8))
+    turn {there} o e =
+        let next : there .tag ≡ (tag + r .intervals) % 2 ^ 32 = ap (λ (q : Place). q .tag) (e ∙ ap (nextBlock (r .intervals)) w) in
         let on = reached-next (r .intervals) p count left tag h (g .fewer) in
-        rw e
+        rw next
         (record {
           inside = within;
           fewer = omega (arith, g .fewer);
@@ -103,8 +108,10 @@ judge-block-requires c κs =
 returns : tie.Need-returns Inv-loop μ-loop
 returns c = search stop
 
-cast-wrapping-add-u32 : tie.Need-cast-wrapping-add-u32 Inv-loop μ-loop
-cast-wrapping-add-u32 c = search needs
+next-block-requires : tie.Need-next-block-requires Inv-loop μ-loop
+next-block-requires c κs =
+    let at = c .before .before .before .before in
+    more (at .before .before .loop .inv) (at .before .loop-test .taken) (at .place-on .ensures)
 
 loop-again : tie.Need-loop-again Inv-loop μ-loop
 loop-again c = search turn
@@ -130,7 +137,7 @@ judge-blocks-spec =
     judge-block-requires
     (λ c κs. search needs)
     returns
-    cast-wrapping-add-u32
-    (λ c κs. search needs) (λ c. search needs) (λ c. search needs)
+    next-block-requires
+    (λ c. search needs) (λ c. search needs)
     loop-again
     returns-2)

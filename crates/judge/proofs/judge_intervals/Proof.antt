@@ -1,6 +1,6 @@
 -- `judge::judge_intervals`: the intervals that are left give, from the place reached, what all of them give.
 -- Assumes nothing.
-use mathlib.Core.Path.{_≡_, refl, sym, ap₂, _∙_}
+use mathlib.Core.Path.{_≡_, refl, sym, ap, ap₂, _∙_}
 use mathlib.Core.Bool.{Bool, true, false, not}
 use mathlib.Core.List.{List}
 use Prim.Native.Nat.{ℕ, _+_, _*_, _-_, _%_, _^_, _<_, _≤_}
@@ -38,6 +38,9 @@ module _ {r : Rules} {k : ℕ} {p : Place} {s : List ℕ} {left tag i : ℕ} (g 
   within : i + r .size + 8 ≤ length s
   within = interval-within left i (r .size) (length s) h (g .from)
 
+  more : {here : Place} → here ≡ placeOn p 0 (k - left) tag → here .interval < 2 ^ 32
+  more w = rw w (omega (arith, h, g .fewer, g .room))
+
   module _ {here : Place} {a : Answer} {b : Bool} (w : here ≡ placeOn p 0 (k - left) tag)
       (m : a ≡ judgePieces r here (take (i + r .size - i) (drop i s)) (take (i + r .size + 8 - (i + r .size)) (drop (i + r .size) s)))
       (t : b ≡ isGood a) where
@@ -48,10 +51,11 @@ module _ {r : Rules} {k : ℕ} {p : Place} {s : List ℕ} {left tag i : ℕ} (g 
     stop : not b ≡ true → a ≡ judgeIntervals r k p s
     stop f = first-stop (judgeInterval r) nextInterval (r .size + 8) left i _ s a _ h judged (sym t ∙ not-true b f) (g .same)
 
-    turn : {next : ℕ} → not b ≡ false → next ≡ (tag + 1) % 2 ^ 32 → Judging r k p s (left - 1) next (i + r .size + 8)
-    turn o e =
+    turn : {there : Place} → not b ≡ false → there ≡ nextInterval here → Judging r k p s (left - 1) (there .tag) (i + r .size + 8)
+    turn {there} o e =
+        let next : there .tag ≡ (tag + 1) % 2 ^ 32 = ap (λ (q : Place). q .tag) (e ∙ ap nextInterval w) in
         let on : p .interval + (k - (left - 1)) ≡ p .interval + (k - left) + 1 = omega (arith, h, g .fewer) in
-        rw e
+        rw next
         (record {
           from = interval-rest left i (r .size) (length s) h (g .from);
           fewer = omega (arith, g .fewer);
@@ -91,12 +95,17 @@ part-judge-pieces-end-2 c = within (c .before .before .before .loop .inv) (c .be
 returns : tie.Need-returns Inv-loop μ-loop
 returns c = search stop
 
+next-interval-requires : tie.Need-next-interval-requires Inv-loop μ-loop
+next-interval-requires c κs =
+    let at = c .before .before .before .before .before in
+    more (at .before .before .loop .inv) (at .before .loop-test .taken) (at .place-on .ensures)
+
 loop-again : tie.Need-loop-again Inv-loop μ-loop
 loop-again c =
     let b = c .before .before in
     let at = b .before .before .before .before in
     turn (at .before .before .loop .inv) (at .before .loop-test .taken) (at .place-on .ensures) (b .before .judge-pieces .ensures) (b .is-good .ensures)
-    (c .before .if1 .left) (c .wrapping-add-u32 .ensures)
+    (c .before .if1 .left) (c .next-interval .ensures)
 
 returns-2 : tie.Need-returns-2 Inv-loop μ-loop
 returns-2 c = first-end _ _ _ (c .before .loop .left) _ _ _ (c .loop-test .left) (c .before .loop .inv .same)
@@ -118,6 +127,7 @@ judge-intervals-spec =
     part-judge-pieces-end-2
     (λ c κs. search needs) (λ c κs. search needs)
     returns
-    (λ c κs. search needs) (λ c. search needs) (λ c. search needs)
+    next-interval-requires
+    (λ c. search needs) (λ c. search needs)
     loop-again
     returns-2)

@@ -1,70 +1,39 @@
--- `segment::is_segment`: each refusal denies one fact of a segment, and the last return has them all.
+-- `segment::is_segment`: the tests, group by group, are those of the definition.
 -- Assumes nothing.
-use mathlib.Core.Path.{sym}
-use mathlib.Core.Logic.{⊎-elim}
-use native.Mathlib.Omega.{arith}
-use Rattle.segment.proofs.Laws.{is-segment, not-segment}
+use mathlib.Core.Path.{_≡_, _∙_}
+use mathlib.Core.Bool.{Bool, _&&_, _||_, and-assoc}
+use Prim.Native.Nat.{_+_, _%_, _^_}
+use lib.Dec.{eqb, leb}
+use Rattle.segment.specs.declared.Description.{Description}
+use Rattle.segment.specs.Segment.{isSegment}
 use borrow.Author.Needs.{needs}
 use Rattle.segment.proofs.is_segment.Statement.{statement}
 use Rattle.segment.proofs.is_segment.Tie as tie
 
+grouped : (d : Description) (bits eights block plain power end most count x y r : Bool) → bits ≡ (leb (d .kind) 3 && leb (d .ato) 1)
+    → eights ≡ (leb (d .block) 4096 && eqb (d .block % 8) 0) → block ≡ (leb 8 (d .block) && eights)
+    → plain ≡ (eqb (d .exponent) 0 || leb 2 (d .kind)) → power ≡ (leb (d .exponent) 3 && plain)
+    → end ≡ leb (d .first + d .count) (2 ^ 63) → most ≡ (leb (d .count) 65536 && end) → count ≡ (leb 1 (d .count) && most)
+    → x ≡ (bits && block) → y ≡ (power && count) → r ≡ (x && y) → r ≡ isSegment d
+unfolding isSegment
+grouped d bits eights block plain power end most count x y r e₁ e₂ e₃ e₄ e₅ e₆ e₇ e₈ e₉ e₁₀ e₁₁ =
+    e₁₁ ∙ rw (e₉, e₁₀, e₁, e₃, e₂, e₅, e₄, e₈, e₇, e₆) (simp and-assoc)
+
 returns : tie.Need-returns
-returns c = sym (not-segment _ (λ s. omega arith))
-
-returns-2 : tie.Need-returns-2
-returns-2 c = sym (not-segment _ (λ s. omega arith))
-
-returns-3 : tie.Need-returns-3
-returns-3 c = sym (not-segment _ (λ s. omega arith))
-
-returns-4 : tie.Need-returns-4
-returns-4 c = sym (not-segment _ (λ s. omega arith))
-
-returns-5 : tie.Need-returns-5
-returns-5 c = sym (not-segment _ (λ s. omega arith))
-
-returns-6 : tie.Need-returns-6
-returns-6 c = sym (not-segment _ (λ s. omega arith))
-
-returns-7 : tie.Need-returns-7
-returns-7 c = sym (not-segment _ (λ s. c .if8 .taken (s .plain (omega arith))))
-
-returns-8 : tie.Need-returns-8
-returns-8 c = sym (not-segment _ (λ s. omega arith))
-
-returns-9 : tie.Need-returns-9
-returns-9 c = sym (not-segment _ (λ s. omega arith))
-
-returns-10 : tie.Need-returns-10
-returns-10 c = sym (not-segment _ (λ s. omega arith))
-
-returns-11 : tie.Need-returns-11
-returns-11 c = sym (is-segment _ (record {
-  kind = omega arith;
-  ato = omega arith;
-  least = omega arith;
-  most = omega arith;
-  eights = c .before .before .before .before .before .if5 .left;
-  exponent = omega arith;
-  plain = λ h. ⊎-elim (λ w. w .1 .left) (λ w. absurd (omega arith)) (c .before .before .before .if7 .came);
-  some = omega arith;
-  count = omega arith;
-  end = omega arith;
-}))
+returns c =
+    let count = c .before .before .before in
+    let power = count .before .before .before .before .before in
+    let block = power .before .before .before .before .before in
+    let bits = block .before .before .before .before .before in
+    grouped (bits .before .before .before .args .d) _ _ _ _ _ _ _ _ _ _ _ (bits .both .ensures) (block .before .both2 .ensures) (block .both3 .ensures)
+    (power .before .either .ensures) (power .both4 .ensures) (count .before .before .ends .ensures) (count .before .both5 .ensures) (count .both6 .ensures)
+    (c .before .before .both7 .ensures) (c .before .both8 .ensures) (c .both9 .ensures)
 
 pub is-segment-spec : {M : Type 1} → statement M
 is-segment-spec =
     tie.close
     (tie.spec
-    returns
-    returns-2
-    returns-3
-    returns-4
-    returns-5
-    returns-6
-    returns-7
-    returns-8
-    returns-9
-    (λ c. search needs)
-    returns-10
-    returns-11)
+    (λ c κs. search needs) (λ c κs. search needs) (λ c κs. search needs) (λ c κs. search needs)
+    (λ c κs. search needs) (λ c κs. search needs) (λ c κs. search needs) (λ c κs. search needs)
+    (λ c κs. search needs) (λ c κs. search needs) (λ c κs. search needs)
+    returns)

@@ -1,10 +1,10 @@
--- `stripe::make`: the rules first; then each refusal denies a length, and the last return has both.
+-- `stripe::make`: the rules first; then the lengths, asked at once.
 -- Assumes nothing.
 use mathlib.Core.Path.{_≡_, refl, ap, _∙_}
 use native.Mathlib.Nat.{zero-mul}
 use native.Mathlib.Omega.{arith}
 use Rattle.stripe.specs.Stripe.{stripeRules, inRange}
-use Rattle.stripe.proofs.Ladder.{all-most, parts-long, range-facts, passed}
+use Rattle.stripe.proofs.Ladder.{all-most, parts-told, range-facts, passed}
 use Rattle.stripe.proofs.Fits.{make-stopped, make-unfit, make-good}
 use borrow.Author.Needs.{needs}
 use Rattle.stripe.proofs.make.Statement.{statement}
@@ -22,8 +22,8 @@ returns c = make-stopped _ _ _ _ _ _ (answered (c .before .before)) (c .before .
 length-requires : tie.Need-length-requires
 length-requires c κs = passed _ _ _ _ (answered (c .before .before)) (c .before .is-good .ensures) (c .if1 .left) .0
 
-mul-if2 : tie.Need-mul-if2
-mul-if2 c =
+mul-both : tie.Need-mul-both
+mul-both c =
     let rules = c .before in
     let p = passed _ _ _ _ (answered (rules .before .before)) (rules .before .is-good .ensures) (rules .if1 .left) in
     let few = range-facts (start (rules .before .before) .args .k) (p .1 .1) .1 in
@@ -31,24 +31,19 @@ mul-if2 c =
 
 returns-2 : tie.Need-returns-2
 returns-2 c =
-    let rules = c .before .before in
-    make-unfit _ _ _ _ _ _ (answered (rules .before .before)) (rules .before .is-good .ensures) _ (c .before .length .ensures) (rules .if1 .left) (λ whole room. c .if2 .taken whole)
-
-returns-3 : tie.Need-returns-3
-returns-3 c =
     let rules = c .before .before .before in
-    make-unfit _ _ _ _ _ _ (answered (rules .before .before)) (rules .before .is-good .ensures) _ (c .before .before .length .ensures) (rules .if1 .left) (λ whole room. c .if3 .taken room)
+    make-unfit _ _ _ _ _ _ (answered (rules .before .before)) (rules .before .is-good .ensures) _ (c .before .before .length .ensures) (rules .if1 .left) _ (c .before .both .ensures) (c .if2 .taken)
 
 join-requires : tie.Need-join-requires
 join-requires c κs =
-    let tests = c .before .before in
-    (parts-long _ (tests .before .if2 .left) (tests .if3 .left), zero-mul _)
+    let test = c .before .before in
+    (parts-told _ _ (test .before .before .length .result) _ _ (test .before .both .ensures) (test .if2 .left), zero-mul _)
 
-returns-4 : tie.Need-returns-4
-returns-4 c =
-    let tests = c .before .before .before .before .before in
-    let rules = tests .before .before .before in
-    make-good _ _ _ _ _ _ (answered (rules .before .before)) (rules .before .is-good .ensures) _ (tests .before .before .length .ensures) (rules .if1 .left) _ (tests .before .if2 .left) (tests .if3 .left) (c .before .before .join .ensures)
+returns-3 : tie.Need-returns-3
+returns-3 c =
+    let test = c .before .before .before .before .before in
+    let rules = test .before .before .before in
+    make-good _ _ _ _ _ _ (answered (rules .before .before)) (rules .before .is-good .ensures) _ (test .before .before .length .ensures) (rules .if1 .left) _ (test .before .both .ensures) (test .if2 .left) _ (c .before .before .join .ensures)
 
 pub make-spec : {M : Type 1} → statement M
 make-spec =
@@ -57,10 +52,10 @@ make-spec =
     (λ c κs. search needs) (λ c κs. search needs) (λ c κs. search needs)
     returns
     length-requires
-    mul-if2
+    mul-both
+    (λ c κs. search needs)
     returns-2
-    returns-3
     (λ c. refl)
     join-requires
     (λ c. search needs)
-    returns-4)
+    returns-3)

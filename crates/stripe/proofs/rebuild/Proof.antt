@@ -1,10 +1,10 @@
--- `stripe::rebuild`: the rules first; then each refusal denies a fact of a fit, and the last return has them all.
+-- `stripe::rebuild`: the rules first; then the lost part, then the lengths, asked at once.
 -- Assumes nothing.
 use mathlib.Core.Path.{_≡_, sym, ap, _∙_}
 use Prim.Native.Nat.{_+_}
 use native.Mathlib.Omega.{arith}
 use Rattle.stripe.specs.Stripe.{stripeRules, inRange}
-use Rattle.stripe.proofs.Ladder.{all-most, parts-long, range-facts, passed}
+use Rattle.stripe.proofs.Ladder.{all-most, parts-told, range-facts, passed}
 use Rattle.stripe.proofs.Fits.{rebuild-stopped, rebuild-refused, rebuild-unfit, rebuild-good}
 use borrow.Author.Needs.{needs}
 use Rattle.stripe.proofs.rebuild.Statement.{statement}
@@ -27,40 +27,35 @@ returns-2 c =
 length-requires : tie.Need-length-requires
 length-requires c κs = let rules = c .before in passed _ _ _ _ (answered (rules .before .before)) (rules .before .is-good .ensures) (rules .if1 .left) .0
 
-mul-if3 : tie.Need-mul-if3
-mul-if3 c =
+mul-both : tie.Need-mul-both
+mul-both c =
     let rules = c .before .before in
     let p = passed _ _ _ _ (answered (rules .before .before)) (rules .before .is-good .ensures) (rules .if1 .left) in
     let few = range-facts (start (rules .before .before) .args .k) (p .1 .1) .1 in
     omega (arith, all-most _ (start (rules .before .before) .args .k + 1) _ (p .0) (c .length .ensures) (omega (arith, few)))
 
-add-if3 : tie.Need-add-if3
-add-if3 c =
+add-both : tie.Need-add-both
+add-both c =
     let rules = c .before .before in
     let p = passed _ _ _ _ (answered (rules .before .before)) (rules .before .is-good .ensures) (rules .if1 .left) in
     omega (arith, range-facts (start (rules .before .before) .args .k) (p .1 .1) .1)
 
 returns-3 : tie.Need-returns-3
 returns-3 c =
-    let rules = c .before .before .before in
-    rebuild-unfit _ _ _ _ _ _ _ (answered (rules .before .before)) (rules .before .is-good .ensures) (rules .if1 .left) _ (c .before .length .ensures) (λ whole room. c .if3 .taken whole)
-
-returns-4 : tie.Need-returns-4
-returns-4 c =
     let rules = c .before .before .before .before in
-    rebuild-unfit _ _ _ _ _ _ _ (answered (rules .before .before)) (rules .before .is-good .ensures) (rules .if1 .left) _ (c .before .before .length .ensures) (λ whole room. c .if4 .taken room)
+    rebuild-unfit _ _ _ _ _ _ _ (answered (rules .before .before)) (rules .before .is-good .ensures) (rules .if1 .left) _ (c .before .before .length .ensures) _ (c .before .both .ensures) (c .if3 .taken)
 
 rebuild-requires : tie.Need-rebuild-requires
 rebuild-requires c κs =
-    let tests = c .before in
-    (tests .before .before .before .if2 .left, sym (parts-long _ (tests .before .if3 .left) (tests .if4 .left)))
+    let test = c .before in
+    (test .before .before .before .if2 .left, sym (parts-told _ _ (test .before .before .length .result) _ _ (test .before .both .ensures) (test .if3 .left)))
 
-returns-5 : tie.Need-returns-5
-returns-5 c =
-    let tests = c .before .before .before .before in
-    let lost = tests .before .before .before in
+returns-4 : tie.Need-returns-4
+returns-4 c =
+    let test = c .before .before .before .before in
+    let lost = test .before .before .before in
     let rules = lost .before in
-    rebuild-good _ _ _ _ _ _ _ (answered (rules .before .before)) (rules .before .is-good .ensures) (rules .if1 .left) _ (tests .before .before .length .ensures) _ (lost .if2 .left) (tests .before .if3 .left) (tests .if4 .left)
+    rebuild-good _ _ _ _ _ _ _ (answered (rules .before .before)) (rules .before .is-good .ensures) (rules .if1 .left) _ (test .before .before .length .ensures) _ (test .before .both .ensures) (test .if3 .left) _ (lost .if2 .left)
     (c .before .before .rebuild .ensures)
 
 pub rebuild-spec : {M : Type 1} → statement M
@@ -71,10 +66,10 @@ rebuild-spec =
     returns
     returns-2
     length-requires
-    add-if3
-    mul-if3
+    add-both
+    mul-both
+    (λ c κs. search needs)
     returns-3
-    returns-4
     rebuild-requires
     (λ c. search needs)
-    returns-5)
+    returns-4)

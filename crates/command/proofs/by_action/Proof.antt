@@ -1,0 +1,14 @@
+-- `command::by_action`: the row of the service action is the arm that matches.
+-- Assumes nothing.
+use mathlib.Core.Path.{refl, sym}
+use Rattle.command.specs.Command.{serviceAction}
+use Rattle.command.proofs.Laws.{none}
+use Rattle.command.proofs.by_action.Statement.{statement}
+use Rattle.command.proofs.by_action.Tie as tie
+
+pub by-action-spec : {M : Type 1} → statement M
+by-action-spec =
+    tie.close
+    (tie.spec
+    (λ c. rw (c .match .keys1) refl) (λ c. rw (c .match .keys2) refl) (λ c. rw (c .match .keys3) refl)
+    (λ c. sym (none Unit (c .before .args .action) serviceAction (c .match .rest) .1)))
