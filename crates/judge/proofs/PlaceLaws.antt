@@ -7,11 +7,11 @@ use native.Mathlib.Omega.{arith}
 use lib.Dec.{lit<}
 use Rattle.interval.specs.declared.Place.{Place}
 use Rattle.words.proofs.Turns.{after}
-use Rattle.judge.specs.Judge.{nextInterval, nextBlock}
+use Rattle.judge.specs.Judge.{placeOn, nextInterval, nextBlock}
 
 -- a addresses and n intervals on
 abbrev pub moved : ℕ → ℕ → Place → Place
-moved a n p = record { address = p .address + a; interval = p .interval + n; tag = (p .tag + n) % 2 ^ 32 }
+moved a n p = placeOn p a n ((p .tag + n) % 2 ^ 32)
 
 moved-none : (p : Place) → p .tag < 2 ^ 32 → moved 0 0 p ≡ p
 moved-none p h = simp (add-zero, mod-eq-of-lt h)

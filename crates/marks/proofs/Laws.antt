@@ -60,5 +60,3 @@ module _ (d : Description) (c : Command) where
   -- ---- a reduced address times the intervals of a block is small
   pub product-small : (a n : ℕ) → Segment d → n ≡ intervalsOf d → a % 2 ^ 32 * n ≤ 2 ^ 32 * 8
   product-small a n s e = mul-le-mul {n₂ = 2 ^ 32} {m₂ = 8} (omega arith) (rw e (sizes d s .intervals-most))
-
--- ---- a side that is checked is checked over all of the transfer's blocks

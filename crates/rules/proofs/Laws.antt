@@ -22,7 +22,7 @@ unfolding columnsOf
 no-code n a b c d e f = rw (ne-eqb n 0 a, ne-eqb n 1 b, ne-eqb n 2 c, ne-eqb n 3 d, ne-eqb n 4 e, ne-eqb n 5 f)
 
 module _ (d : Description) (c : Command) where
-  -- ---- what is known
+  -- ---- the first tag
   pub tag-one : d .kind ≡ 1 → firstTag d c ≡ c .address % 2 ^ 32
   unfolding firstTag
   tag-one k = rw (eq-eqb (d .kind) 1 k)
@@ -42,6 +42,7 @@ module _ (d : Description) (c : Command) where
   unfolding startOf
   start-is t e = rw e
 
+-- ---- a side that is checked is checked over all of the transfer's blocks
 module _ (side : Side) (d : Description) (c : Command) where
   pub record Checks : Type 0 where
     pub fields : d .kind ≡ 0 → ⊥

@@ -40,11 +40,11 @@ parts-long k e h = ap (λ (l : ℕ). k * l) h ∙ sym e
 pub same : (a b : ℕ) → a ≡ b → T (eqb a b)
 same a b e = rw e (eqb-refl b)
 
--- two tests that were asked at once
-pub is-true : (b : Bool) → T b → b ≡ true
+is-true : (b : Bool) → T b → b ≡ true
 is-true true t = refl
 is-true false t = absurd t
 
+-- two tests that were asked at once
 pub equal : (a x b y : ℕ) (r : Bool) → r ≡ (eqb a x && eqb b y) → not r ≡ false → (a ≡ x) × (b ≡ y)
 equal a x b y r e n =
     let t : T (eqb a x && eqb b y) = rw (← e, not-false r n) tt in

@@ -96,10 +96,10 @@ high-byte n b h = omega arith
 low-byte : (n b : ℕ) → b < 256 → (n * 256 + b) % 256 ≡ b
 low-byte n b h = omega arith
 
--- two numbers, the lower one of w bytes: written one behind the other they are one number
 higher : (h l p : ℕ) → h * (p * 256) + l ≡ (h * p + l / 256) * 256 + l % 256
 higher h l p = rw (add-mul, add-assoc, div-add-mod' l 256, mul-assoc)
 
+-- two numbers, the lower one of w bytes: written one behind the other they are one number
 pub bytes-joined : (v w h l : ℕ) → l < 256 ^ w → bytes (v + w) (h * 256 ^ w + l) ≡ bytes v h ++ bytes w l
 unfolding bytes
 bytes-joined v zero h l b = let none : l ≡ 0 = omega arith in rw (none, mul-one, add-zero v, add-zero h, append-nil)

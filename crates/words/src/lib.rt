@@ -1,4 +1,4 @@
-// Numbers in bytes, exclusive or, copying and filling, two tests: what knows nothing of disks.
+// Numbers in bytes, exclusive or, copying and filling, two tests joined: what knows nothing of disks.
 ghost use mathlib.Core.Path.{_≡_};
 ghost use mathlib.Core.Bool.{_&&_, _||_};
 ghost use Prim.Native.Nat.{_+_, _≤_};

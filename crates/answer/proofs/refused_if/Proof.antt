@@ -1,7 +1,6 @@
 -- `answer::refused_if`: by what holds.
 -- Assumes nothing.
 use mathlib.Core.Path.{refl}
-use borrow.Author.Needs.{needs}
 use Rattle.answer.proofs.refused_if.Statement.{statement}
 use Rattle.answer.proofs.refused_if.Tie as tie
 

@@ -6,7 +6,6 @@ use Prim.Native.Nat.{ℕ, _+_, _-_, _^_, _≤_, _<_}
 use native.Mathlib.Omega.{arith}
 use borrow.Author.Tests.{le-leb, lt-leb, leb-true, leb-false}
 use lib.Dec.{leb}
-use borrow.Author.Needs.{needs}
 use Rattle.segment.proofs.ends.Statement.{statement}
 use Rattle.segment.proofs.ends.Tie as tie
 
