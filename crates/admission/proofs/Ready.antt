@@ -16,10 +16,10 @@ use Rattle.segment.specs.Rules.{segmentRules}
 use Rattle.segment.specs.Places.{rangeRule}
 use Rattle.segment.proofs.Rules.{rules-segment}
 use Rattle.segment.proofs.Places.{range-facts}
-use Rattle.command.specs.Command.{decode}
 use Rattle.command.specs.declared.Command.{Command}
-use Rattle.command.specs.declared.Decoded.{Decoded}
-use Rattle.command.specs.declared.Decoded.the-variants as decoded
+use Rattle.decoding.specs.Commands.{decode}
+use Rattle.decoding.specs.declared.Decoded.{Decoded}
+use Rattle.decoding.specs.declared.Decoded.the-variants as decoded
 use Rattle.refusal.specs.declared.Lengths.{Lengths}
 use Rattle.refusal.specs.Refusal.{longRule, otherRule, plainRule, typeRules, codeRule, checkRule, sizeRule, bufferOf, bufferRule, refusal}
 use Rattle.admission.specs.declared.Admitted.{Admitted}

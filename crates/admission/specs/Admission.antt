@@ -6,10 +6,10 @@ use Rattle.answer.specs.Answer.{isGood}
 use Rattle.answer.specs.declared.Answer.the-variants as answers
 use Rattle.segment.specs.declared.Description.{Description}
 use Rattle.segment.specs.Rules.{segmentRules}
-use Rattle.command.specs.Command.{decode}
 use Rattle.command.specs.declared.Command.{Command}
-use Rattle.command.specs.declared.Decoded.{Decoded}
-use Rattle.command.specs.declared.Decoded.the-variants as decoded
+use Rattle.decoding.specs.Commands.{decode}
+use Rattle.decoding.specs.declared.Decoded.{Decoded}
+use Rattle.decoding.specs.declared.Decoded.the-variants as decoded
 use Rattle.refusal.specs.declared.Lengths.{Lengths}
 use Rattle.refusal.specs.Refusal.{refusal}
 use Rattle.admission.specs.declared.Admitted.{Admitted}

@@ -4,7 +4,7 @@ ghost use Rattle.segment.specs.Segment.{Segment};
 ghost use Rattle.admission.specs.Admission.{admitCommand, admitted};
 use answer::Answer;
 use command::Command;
-use command::Decoded;
+use decoding::Decoded;
 use refusal::Lengths;
 use segment::Description;
 
@@ -33,7 +33,7 @@ pub fn admit(d: Description, lengths: Lengths, command: &[u8]) -> Admitted
     if !answer::is_good(a) {
         return Admitted::Refused(a);
     }
-    let decoded = command::decode(command);
+    let decoded = decoding::decode(command);
     match decoded {
         Decoded::Refused(r) => Admitted::Refused(Answer::Refused(r)),
         Decoded::Served(c) => admit_command(d, c, lengths),

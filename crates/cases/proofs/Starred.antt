@@ -10,7 +10,7 @@ use Rattle.guard.specs.Guard.{guard, divide, takeOff, terms, termsOf}
 use Rattle.segment.specs.Segment.{isSegment, intervalsOf, sizeOf, storedOf, lengthOf}
 use Rattle.segment.specs.Rules.{descriptionRule, lengthRule, segmentRules}
 use Rattle.segment.specs.Places.{rangeRule, offsetOf, spanOf, blocksFrom}
-use Rattle.command.specs.Command.{recognise, fields, decodeAs, decode}
+use Rattle.decoding.specs.Commands.{recognise, fields, decodeAs, decode}
 use Rattle.field.specs.Field.{storedGuard, storedApplication, storedReference, fieldBytes, dataOf, fieldOf}
 use Rattle.interval.specs.Interval.{escapes, anyEscapes, guardWrong, applicationWrong, referenceWrong, judgePieces, judgeInterval}
 use Rattle.judge.specs.FirstOf.{firstOf}
@@ -18,8 +18,8 @@ use Rattle.judge.specs.Judge.{judgeIntervals, judgeBlock, judgeBlocks}
 use Rattle.insertion.specs.Insertion.{withField, storedBlock, storedBlocks}
 use Rattle.refusal.specs.Refusal.{longRule, otherRule, plainRule, typeRules, codeRule, checkRule, movedOf, sizeRule, bufferOf, bufferRule, refusal}
 use Rattle.admission.specs.Admission.{admitted}
+use Rattle.sides.specs.Sides.{checkedOn}
 use Rattle.rules.specs.Rules.{columnsOf, applicationKnown, referenceKnown, firstTag, rulesOf, startOf}
-use Rattle.rules.specs.Sides.{checkedOn}
 use Rattle.marks.specs.Inserted.{insertedApplication, insertedReference, marksOf}
 use Rattle.transfer.specs.Transfer.{blocksOf, judgedOn, judged, whole, handed, received}
 use Rattle.execute.specs.Execute.{overwritten, moved, performed, executed}

@@ -1,3 +1,1 @@
-pub mod Laws
-pub mod Demands
 pub mod Coincide

@@ -1,3 +1,1 @@
-pub mod Command
-pub mod Bits
 pub mod Sixteen

@@ -36,7 +36,7 @@ use Rattle.insertion.specs.Insertion.{withField, later, storedBlock, storedBloc
 use Rattle.insertion.proofs.Laws.{interval-length, block-length, interval-read-on, interval-field-on}
 use Rattle.rules.specs.Rules.{columnsOf, applicationKnown, referenceKnown, firstTag, rulesOf, startOf}
 use Rattle.marks.specs.Inserted.{insertedApplication, insertedReference, marksOf}
-use Rattle.rules.specs.declared.Side.the-variants.{Sent, Stored}
+use Rattle.sides.specs.declared.Side.the-variants.{Sent, Stored}
 use Rattle.rules.specs.Intervals.{placeAt, skipped, verdictAt}
 use Rattle.execute.specs.Compared.{asRead}
 use Rattle.execute.proofs.Wrong.{blocks-good}

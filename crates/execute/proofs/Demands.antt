@@ -22,23 +22,23 @@ use Rattle.segment.specs.Segment.{intervalsOf, sizeOf}
 use Rattle.segment.specs.Rules.{segmentRules}
 use Rattle.segment.specs.Places.{intervalAt}
 use Rattle.field.specs.Field.{dataOf, fieldOf}
-use Rattle.command.specs.Command.{decode}
-use Rattle.command.specs.Bits.{SameCommand}
 use Rattle.command.specs.declared.Command.{Command}
-use Rattle.command.specs.declared.Decoded.the-variants.{Served}
 use Rattle.command.specs.declared.Operation.{Operation}
 use Rattle.command.specs.declared.Operation.the-variants.{Read, Write, Verify}
-use Rattle.command.proofs.Laws.{Bounded, served-bounded}
-use Rattle.command.proofs.Demands.{same-command}
+use Rattle.decoding.specs.Commands.{decode}
+use Rattle.decoding.specs.Bits.{SameCommand}
+use Rattle.decoding.specs.declared.Decoded.the-variants.{Served}
+use Rattle.decoding.proofs.Laws.{Bounded, served-bounded}
+use Rattle.decoding.proofs.Demands.{same-command}
 use Rattle.interval.specs.Interval.{guardWrong, applicationWrong, referenceWrong, judgeInterval}
 use Rattle.interval.specs.Verdict.{Verdict}
 use Rattle.judge.specs.Judge.{judgeBlocks}
-use Rattle.rules.specs.declared.Side.{Side}
-use Rattle.rules.specs.declared.Side.the-variants.{Sent, Stored}
+use Rattle.sides.specs.declared.Side.{Side}
+use Rattle.sides.specs.declared.Side.the-variants.{Sent, Stored}
+use Rattle.sides.specs.Sides.{checksOn}
+use Rattle.sides.proofs.Laws.{checked-none, checked-plain}
 use Rattle.rules.specs.Rules.{rulesOf, startOf, firstTag}
-use Rattle.rules.specs.Sides.{checksOn}
 use Rattle.rules.specs.Intervals.{placeAt}
-use Rattle.rules.proofs.Laws.{checked-none, checked-plain}
 use Rattle.rules.proofs.Places.{tag-small}
 use Rattle.refusal.specs.declared.Lengths.{Lengths}
 use Rattle.refusal.specs.Refusal.{longRule, otherRule, plainRule, typeRules, codeRule, checkRule, sizeRule, isVerify, movedOf, bufferOf, bufferRule, refusal}

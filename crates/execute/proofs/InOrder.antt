@@ -15,9 +15,9 @@ use Rattle.segment.specs.Segment.{isSegment, lengthOf}
 use Rattle.segment.specs.Rules.{descriptionRule, lengthRule, segmentRules}
 use Rattle.segment.specs.Places.{rangeRule}
 use Rattle.command.specs.declared.Command.{Command}
-use Rattle.command.specs.declared.Decoded.{Decoded}
-use Rattle.command.specs.declared.Decoded.the-variants as decoded
-use Rattle.command.specs.Command.{decode}
+use Rattle.decoding.specs.declared.Decoded.{Decoded}
+use Rattle.decoding.specs.declared.Decoded.the-variants as decoded
+use Rattle.decoding.specs.Commands.{decode}
 use Rattle.refusal.specs.declared.Lengths.{Lengths}
 use Rattle.refusal.specs.Refusal.{longRule, otherRule, plainRule, typeRules, codeRule, checkRule, movedOf, sizeRule, bufferOf, bufferRule, refusal}
 use Rattle.admission.specs.declared.Admitted.{Admitted}

@@ -20,11 +20,11 @@ use Rattle.segment.specs.declared.Description.{Description}
 use Rattle.segment.specs.Segment.{intervalsOf, sizeOf}
 use Rattle.segment.specs.Places.{intervalAt}
 use Rattle.segment.proofs.Laws.{sizes}
-use Rattle.command.specs.Command.{decode}
 use Rattle.command.specs.declared.Command.{Command}
-use Rattle.command.specs.declared.Decoded.the-variants.{Served}
 use Rattle.command.specs.declared.Operation.the-variants.{Write}
-use Rattle.command.proofs.Laws.{Bounded, served-bounded}
+use Rattle.decoding.specs.Commands.{decode}
+use Rattle.decoding.specs.declared.Decoded.the-variants.{Served}
+use Rattle.decoding.proofs.Laws.{Bounded, served-bounded}
 use Rattle.guard.proofs.Laws.{guard-lt}
 use Rattle.field.specs.Field.{storedGuard, storedApplication, storedReference, fieldBytes, dataOf, fieldOf}
 use Rattle.field.proofs.Demands.{guard-read-back, application-read-back, reference-read-back}

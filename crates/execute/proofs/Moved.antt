@@ -20,17 +20,17 @@ use Rattle.answer.proofs.Ladder.{orElse-good}
 use Rattle.segment.specs.declared.Description.{Description}
 use Rattle.segment.specs.Segment.{intervalsOf, sizeOf, storedOf}
 use Rattle.segment.specs.Places.{offsetOf, spanOf, blocksFrom}
-use Rattle.command.specs.Command.{decode}
 use Rattle.command.specs.declared.Command.{Command}
-use Rattle.command.specs.declared.Decoded.the-variants.{Served}
 use Rattle.command.specs.declared.Operation.{Operation}
 use Rattle.command.specs.declared.Operation.the-variants.{Read, Write, Verify}
+use Rattle.decoding.specs.Commands.{decode}
+use Rattle.decoding.specs.declared.Decoded.the-variants.{Served}
 use Rattle.blocks.specs.Blocks.{userData}
-use Rattle.rules.specs.declared.Side.{Side}
-use Rattle.rules.specs.declared.Side.the-variants.{Sent, Stored}
-use Rattle.rules.specs.Sides.{checksOn, checkedOn}
+use Rattle.sides.specs.declared.Side.{Side}
+use Rattle.sides.specs.declared.Side.the-variants.{Sent, Stored}
+use Rattle.sides.specs.Sides.{checksOn, checkedOn}
+use Rattle.sides.proofs.Laws.{checked-all}
 use Rattle.rules.specs.Intervals.{verdictAt}
-use Rattle.rules.proofs.Laws.{checked-all}
 use Rattle.refusal.specs.Refusal.{isVerify, movedOf}
 use Rattle.refusal.proofs.Rules.{room-moved}
 use Rattle.admission.specs.declared.Admitted.the-variants.{Go}

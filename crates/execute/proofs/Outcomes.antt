@@ -23,9 +23,9 @@ use Rattle.command.specs.declared.Operation.the-variants.{Read, Write, Verify}
 use Rattle.refusal.specs.declared.Lengths.{Lengths}
 use Rattle.refusal.specs.Refusal.{isVerify}
 use Rattle.refusal.proofs.Rules.{room-moved}
-use Rattle.rules.specs.declared.Side.the-variants.{Sent}
-use Rattle.rules.specs.Sides.{checksOn}
-use Rattle.rules.proofs.Laws.{checks-all}
+use Rattle.sides.specs.declared.Side.the-variants.{Sent}
+use Rattle.sides.specs.Sides.{checksOn}
+use Rattle.sides.proofs.Laws.{checks-all}
 use Rattle.admission.specs.declared.Admitted.the-variants.{Refused, Go}
 use Rattle.admission.specs.Admission.{admitted}
 use Rattle.admission.specs.Ready.{Ready}

@@ -25,9 +25,9 @@ use Rattle.judge.specs.FirstOf.{firstOf}
 use Rattle.judge.specs.Judge.{judgeIntervals, judgeBlock, judgeBlocks, nextInterval, nextBlock}
 use Rattle.answer.proofs.Ladder.{not-both}
 use Rattle.judge.proofs.FirstLaws.{first-good, first-found, FirstWrong}
+use Rattle.sides.specs.declared.Side.{Side}
+use Rattle.sides.specs.Sides.{checkedOn}
 use Rattle.rules.specs.Rules.{rulesOf, startOf, firstTag}
-use Rattle.rules.specs.declared.Side.{Side}
-use Rattle.rules.specs.Sides.{checkedOn}
 use Rattle.rules.specs.Intervals.{placeAt, skipped, verdictAt}
 use Rattle.rules.proofs.Places.{place-is}
 use Rattle.transfer.specs.Transfer.{judgedOn}

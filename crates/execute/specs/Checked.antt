@@ -12,10 +12,10 @@ use Rattle.segment.specs.Places.{intervalAt}
 use Rattle.command.specs.declared.Command.{Command}
 use Rattle.interval.specs.declared.Place.{Place}
 use Rattle.interval.specs.Interval.{judgeInterval}
-use Rattle.rules.specs.declared.Side.{Side}
-use Rattle.rules.specs.declared.Side.the-variants.{Sent, Stored}
+use Rattle.sides.specs.declared.Side.{Side}
+use Rattle.sides.specs.declared.Side.the-variants.{Sent, Stored}
+use Rattle.sides.specs.Sides.{checkedOn}
 use Rattle.rules.specs.Rules.{rulesOf}
-use Rattle.rules.specs.Sides.{checkedOn}
 use Rattle.rules.specs.Intervals.{placeAt, skipped, verdictAt}
 use Rattle.admission.specs.declared.Admitted.the-variants.{Go}
 use Rattle.admission.specs.Admission.{admitted}

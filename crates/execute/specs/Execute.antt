@@ -8,8 +8,8 @@ use Rattle.segment.specs.Places.{offsetOf}
 use Rattle.command.specs.declared.Command.{Command}
 use Rattle.command.specs.declared.Operation.{Operation}
 use Rattle.command.specs.declared.Operation.the-variants.{Read, Write, Verify}
-use Rattle.rules.specs.declared.Side.{Side}
-use Rattle.rules.specs.declared.Side.the-variants.{Sent, Stored}
+use Rattle.sides.specs.declared.Side.{Side}
+use Rattle.sides.specs.declared.Side.the-variants.{Sent, Stored}
 use Rattle.admission.specs.declared.Admitted.{Admitted}
 use Rattle.admission.specs.declared.Admitted.the-variants.{Refused, Go}
 use Rattle.admission.specs.Admission.{admitted}

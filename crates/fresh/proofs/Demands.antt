@@ -19,11 +19,11 @@ use Rattle.segment.specs.Places.{intervalAt}
 use Rattle.segment.proofs.Laws.{sizes}
 use Rattle.segment.proofs.Rules.{described-rule, length-right}
 use Rattle.segment.proofs.Places.{inside}
-use Rattle.command.specs.Command.{decode}
 use Rattle.command.specs.declared.Command.{Command}
-use Rattle.command.specs.declared.Decoded.the-variants.{Served}
 use Rattle.command.specs.declared.Operation.{Operation}
 use Rattle.command.specs.declared.Operation.the-variants.{Read, Write, Verify}
+use Rattle.decoding.specs.Commands.{decode}
+use Rattle.decoding.specs.declared.Decoded.the-variants.{Served}
 use Rattle.interval.specs.declared.Escape.{Escape}
 use Rattle.interval.specs.declared.Escape.the-variants.{Tag, Both}
 use Rattle.field.specs.Field.{storedApplication, storedReference, fieldOf}
@@ -32,11 +32,11 @@ use Rattle.judge.specs.Judge.{judgeBlock, judgeBlocks, nextBlock}
 use Rattle.judge.proofs.FirstLaws.{first-good}
 use Rattle.judge.proofs.BlockLaws.{block-escaped}
 use Rattle.blocks.specs.Blocks.{userData}
-use Rattle.rules.specs.declared.Side.the-variants.{Sent, Stored}
+use Rattle.sides.specs.declared.Side.the-variants.{Sent, Stored}
+use Rattle.sides.specs.Sides.{checksOn}
+use Rattle.sides.proofs.Laws.{checked-none}
 use Rattle.rules.specs.Rules.{escapeOf, rulesOf, startOf}
-use Rattle.rules.specs.Sides.{checksOn}
 use Rattle.rules.specs.Intervals.{skipped}
-use Rattle.rules.proofs.Laws.{checked-none}
 use Rattle.filling.specs.Fresh.{freshIntervals, filled}
 use Rattle.refusal.specs.declared.Lengths.{Lengths}
 use Rattle.refusal.specs.Refusal.{isVerify, checkRule, movedOf, sizeRule, bufferOf, bufferRule, refusal}

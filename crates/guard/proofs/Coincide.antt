@@ -1,18 +1,15 @@
 -- "any two permitted answers coincide": of each public function, over its contract as it stands. Whatever the arguments a are, two
 -- answers x and y that the contract permits are one, and so is each byte lent to be written, as the calls leave it in s and in t.
 -- Assumes nothing.
-use mathlib.Core.Path.{_≡_, refl, sym, ap, ap₂, _∙_}
+use mathlib.Core.Path.{_≡_, refl, sym, ap₂, _∙_}
 use mathlib.Core.List.{List, [], _∷_}
 use Prim.Native.Nat.{ℕ, zero, suc, _<_}
 use native.Mathlib.Omega.{arith}
 use lib.ListN.{length, getD}
-use denote.Ref.{now}
-use Rattle.answer.specs.Outcome.{Outcome}
 use Rattle.guard.proofs.guard_by_division.Reads as guard-by-division-reads
 use Rattle.guard.proofs.table.Reads as table-reads
 use Rattle.guard.proofs.guard_through.Reads as guard-through-reads
 use Rattle.guard.proofs.guard_by_table.Reads as guard-by-table-reads
-use Rattle.guard.proofs.guards.Reads as guards-reads
 
 pub guard-by-division : (κs : _) (a : _) (x y : _) (s t : _) → guard-by-division-reads.Post κs a x s → guard-by-division-reads.Post κs a y t → x ≡ y
 guard-by-division κs a x y s t p q = p ∙ sym q
@@ -36,6 +33,3 @@ guard-through κs a x y s t p q = p ∙ sym q
 
 pub guard-by-table : (κs : _) (a : _) (x y : _) (s t : _) → guard-by-table-reads.Post κs a x s → guard-by-table-reads.Post κs a y t → x ≡ y
 guard-by-table κs a x y s t p q = p ∙ sym q
-
-pub guards : (κs : _) (a : _) (x y : _) (s t : _) → guards-reads.Post κs a x s → guards-reads.Post κs a y t → (x ≡ y) × (now (s .1 .1 .0) ≡ now (t .1 .1 .0))
-guards κs a x y s t p q = (ap (λ (o : Outcome (List ℕ)). o .answer) (p ∙ sym q), ap (λ (o : Outcome (List ℕ)). o .left) (p ∙ sym q))

@@ -1,4 +1,3 @@
 pub mod Guard
 pub mod Remainder
 pub mod Table
-pub mod Guards

@@ -1,13 +1,8 @@
 // The guard of an interval's data, by long division and through a table of 256 numbers.
 ghost use mathlib.Core.Path.{_≡_};
 ghost use Prim.Native.Nat.{_+_, _*_, _<_};
-ghost use lib.ListN.{length};
 ghost use Rattle.guard.specs.Guard.{guard, divide, takeOff, terms};
-ghost use Rattle.answer.specs.Outcome.{outcome};
-ghost use Rattle.guard.specs.Guards.{guards, guardsOf};
 ghost use Rattle.guard.specs.Table.{Right, tableStep};
-use answer::Answer;
-use answer::Reason;
 
 // The remainder with one term more brought down, and the divisor taken off where it goes in.
 fn bring_down(r: u16, t: u16) -> u16
@@ -343,44 +338,4 @@ pub fn guard_by_table(data: &[u8]) -> u16
 {
     let t = table();
     guard_through(&t, data)
-}
-
-// Fills `out` with the guards of `count` intervals of `size` bytes, two bytes each.
-fn fill_guards(t: &[u16; 256], data: &[u8], size: usize, count: usize, out: &mut [u8])
-    requires { ⌜ Right (now t) ⌝ }
-    requires { ⌜ count * size ≡ length (now «data») ⌝ }
-    requires { ⌜ count * 2 ≡ length (now out) ⌝ }
-    ensures { λ _. ⌜ now (out .exit) ≡ guardsOf size count (now («data» .entry)) ⌝ }
-{
-    let mut left = count;
-    let mut i: usize = 0;
-    let mut at: usize = 0;
-    while 0 < left {
-        let end = i + size;
-        let g = guard_through(t, &data[i..end]);
-        words::write2(out, at, g);
-        i = end;
-        at += 2;
-        left -= 1;
-    }
-}
-
-// The guards of the intervals of `size` bytes that `data` is made of, two bytes each, big-endian, into `out`.
-// Refused with 4 if `size` is 0, `data` is not a whole number of intervals, or `out` does not have two bytes for each.
-pub fn guards(data: &[u8], size: usize, out: &mut [u8]) -> Answer
-    ensures { λ r. ⌜ outcome r (now (out .exit)) ≡ guards (now («data» .entry)) size (now (out .entry)) ⌝ }
-{
-    if size == 0 {
-        return Answer::Refused(Reason::BufferLengthWrong);
-    }
-    if data.len() % size != 0 {
-        return Answer::Refused(Reason::BufferLengthWrong);
-    }
-    let count = data.len() / size;
-    if out.len() != count * 2 {
-        return Answer::Refused(Reason::BufferLengthWrong);
-    }
-    let t = table();
-    fill_guards(&t, data, size, count, out);
-    Answer::Good
 }

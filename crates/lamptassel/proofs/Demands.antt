@@ -15,7 +15,7 @@ use Rattle.execute.specs.Execute.{executed}
 use Rattle.execute.proofs.Demands.{refused-leaves-all}
 use Rattle.filling.specs.Fresh.{filled}
 use Rattle.stripe.specs.Stripe.{made, rebuilt, corrected}
-use Rattle.guard.specs.Guards.{guards}
+use Rattle.guards.specs.Guards.{guards}
 use Rattle.lamptassel.specs.Answers.{Executed, Answered}
 
 -- ---- "Any answer but 0 changes no lent byte, save a place lent for the answer's own numbers."

@@ -1,7 +1,7 @@
 // What a C server links. Each function takes numbers and byte slices, and answers every input.
 ghost use mathlib.Core.Path.{_≡_};
 ghost use Rattle.guard.specs.Guard.{guard};
-ghost use Rattle.guard.specs.Guards.{guards};
+ghost use Rattle.guards.specs.Guards.{guards};
 ghost use Rattle.answer.specs.Answer.{senseNumbered};
 ghost use Rattle.segment.specs.Segment.{described};
 ghost use Rattle.execute.specs.Lent.{lent};
@@ -169,5 +169,5 @@ pub extern "C" fn lamptassel_guard_by_division(data: &[u8]) -> u16
 pub extern "C" fn lamptassel_guards(data: &[u8], size: usize, out: &mut [u8]) -> u64
     ensures { λ r. ⌜ Answered (guards (now («data» .entry)) size (now (out .entry))) r (now (out .exit)) ⌝ }
 {
-    answer::number(guard::guards(data, size, out))
+    answer::number(guards::guards(data, size, out))
 }

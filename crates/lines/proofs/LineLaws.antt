@@ -12,10 +12,10 @@ use Rattle.interval.specs.declared.Place.{Place}
 use Rattle.field.specs.Field.{storedGuard, storedApplication, storedReference, dataOf}
 use Rattle.field.proofs.Laws.{field-whole}
 use Rattle.interval.specs.Interval.{judgePieces, judgeInterval}
-use Rattle.text.specs.Text.{hexadecimal, decimal}
-use Rattle.text.specs.Laid.{Written}
-use Rattle.text.proofs.Writing.{written-then, written-as}
-use Rattle.text.proofs.Digits.{decimal-most, hexadecimal-length}
+use Rattle.writing.specs.Laid.{Written}
+use Rattle.writing.proofs.Writing.{written-then, written-as}
+use Rattle.digits.specs.Digits.{hexadecimal, decimal}
+use Rattle.digits.proofs.Digits.{decimal-most, hexadecimal-length}
 use Rattle.lines.specs.declared.Line.{Line}
 use Rattle.lines.specs.declared.State.{State}
 use Rattle.lines.specs.declared.State.the-variants.{Skipped, Guard, Ref, Ok}

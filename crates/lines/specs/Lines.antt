@@ -10,7 +10,7 @@ use Rattle.interval.specs.declared.Rules.{Rules}
 use Rattle.interval.specs.declared.Place.{Place}
 use Rattle.field.specs.Field.{storedGuard, storedApplication, storedReference, fieldOf}
 use Rattle.interval.specs.Interval.{judgeInterval}
-use Rattle.text.specs.Text.{hexadecimal, decimal}
+use Rattle.digits.specs.Digits.{hexadecimal, decimal}
 use Rattle.lines.specs.declared.Line.{Line}
 use Rattle.lines.specs.declared.State.{State}
 use Rattle.lines.specs.declared.State.the-variants.{Skipped, Guard, Ref, Ok}

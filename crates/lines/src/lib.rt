@@ -3,7 +3,7 @@ ghost use mathlib.Core.Path.{_≡_};
 ghost use Prim.Native.Nat.{_+_, _≤_, _^_};
 ghost use lib.ListN.{length};
 ghost use Rattle.guard.specs.Table.{Right};
-ghost use Rattle.text.specs.Laid.{Written};
+ghost use Rattle.writing.specs.Laid.{Written};
 ghost use Rattle.lines.specs.Lines.{fieldWord, worded, stateOf, lineOf, stateText, lineText};
 use answer::Answer;
 use answer::Field;
@@ -86,10 +86,10 @@ fn print_state(out: &mut [u8], at: usize, s: State) -> usize
     ensures { λ r. ⌜ Written (stateText s) at (now (out .entry)) r (now (out .exit)) ⌝ }
 {
     match s {
-        State::Skipped => text::put_word(out, at, b"skipped"),
-        State::Guard => text::put_word(out, at, b"guard"),
-        State::Ref => text::put_word(out, at, b"ref"),
-        State::Ok => text::put_word(out, at, b"ok"),
+        State::Skipped => writing::put_word(out, at, b"skipped"),
+        State::Guard => writing::put_word(out, at, b"guard"),
+        State::Ref => writing::put_word(out, at, b"ref"),
+        State::Ok => writing::put_word(out, at, b"ok"),
     }
 }
 
@@ -104,5 +104,5 @@ pub fn print_line(out: &mut [u8], at: usize, l: Line) -> usize
     let m = text::hexadecimal_then(out, g, 4, l.application as u64, 0x20);
     let f = text::hexadecimal_then(out, m, 8, l.reference as u64, 0x20);
     let e = print_state(out, f, state);
-    text::put(out, e, 0x0A)
+    writing::put(out, e, 0x0A)
 }

@@ -21,10 +21,10 @@ use Rattle.judge.specs.FirstOf.{firstOf}
 use Rattle.judge.specs.Judge.{judgeIntervals, judgeBlock, judgeBlocks, nextInterval, nextBlock}
 use Rattle.answer.proofs.Ladder.{orElse-good}
 use Rattle.command.specs.Sixteen.{sixteen}
-use Rattle.rules.specs.declared.Side.the-variants.{Stored}
+use Rattle.sides.specs.declared.Side.the-variants.{Stored}
 use Rattle.rules.specs.Rules.{columnsOf, applicationKnown, rulesOf, startOf}
-use Rattle.text.proofs.Writing.{laid-length}
-use Rattle.text.proofs.Digits.{decimal-most}
+use Rattle.writing.proofs.Writing.{laid-length}
+use Rattle.digits.proofs.Digits.{decimal-most}
 use Rattle.lines.specs.Lines.{worded, stateOf, lineOf}
 use Rattle.sheet.specs.Sheet.{intervalLines, linesIn, blockLines, faulty, skips, countOf, linesText}
 use Rattle.records.specs.Record.{recordAnswer, describedBy, segmentIn}

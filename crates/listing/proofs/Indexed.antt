@@ -24,7 +24,7 @@ use Rattle.interval.specs.Interval.{anyEscapes, judgeInterval}
 use Rattle.words.proofs.Turns.{after}
 use Rattle.judge.specs.Judge.{nextInterval, nextBlock}
 use Rattle.command.specs.Sixteen.{sixteen}
-use Rattle.rules.specs.declared.Side.the-variants.{Stored}
+use Rattle.sides.specs.declared.Side.the-variants.{Stored}
 use Rattle.rules.specs.Rules.{firstTag, rulesOf, startOf}
 use Rattle.rules.specs.Intervals.{placeAt, skipped, verdictAt}
 use Rattle.rules.proofs.Places.{tag-small, place-is}

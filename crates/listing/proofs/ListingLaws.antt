@@ -20,11 +20,11 @@ use Rattle.interval.specs.declared.Rules.{Rules}
 use Rattle.interval.specs.declared.Place.{Place}
 use Rattle.judge.specs.Judge.{Run}
 use Rattle.command.specs.Sixteen.{sixteen}
-use Rattle.rules.specs.declared.Side.the-variants.{Stored}
+use Rattle.sides.specs.declared.Side.the-variants.{Stored}
 use Rattle.rules.specs.Rules.{rulesOf, startOf}
-use Rattle.text.specs.Text.{decimal}
-use Rattle.text.specs.Laid.{laid, Written}
-use Rattle.text.proofs.Writing.{written-then, written-as}
+use Rattle.writing.specs.Laid.{laid, Written}
+use Rattle.writing.proofs.Writing.{written-then, written-as}
+use Rattle.digits.specs.Digits.{decimal}
 use Rattle.sheet.specs.declared.Sheet.{Sheet}
 use Rattle.sheet.specs.Sheet.{blockLines, Printed, Room}
 use Rattle.records.specs.Record.{recordAnswer, describedBy, segmentIn}

@@ -9,7 +9,7 @@ use Rattle.segment.specs.Segment.{intervalsOf, sizeOf}
 use Rattle.segment.specs.Places.{blockAt, intervalAt}
 use Rattle.field.specs.Field.{storedGuard, storedApplication, storedReference, dataOf, fieldOf}
 use Rattle.interval.specs.Interval.{anyEscapes}
-use Rattle.rules.specs.declared.Side.the-variants.{Stored}
+use Rattle.sides.specs.declared.Side.the-variants.{Stored}
 use Rattle.rules.specs.Rules.{escapeOf}
 use Rattle.lines.specs.declared.Line.{Line}
 use Rattle.lines.specs.declared.State.{State}

@@ -11,10 +11,10 @@ use Rattle.segment.specs.declared.Description.{Description}
 use Rattle.command.specs.declared.Command.{Command}
 use Rattle.command.specs.declared.Operation.the-variants.{Read}
 use Rattle.command.specs.Sixteen.{sixteen}
-use Rattle.rules.specs.declared.Side.the-variants.{Stored}
+use Rattle.sides.specs.declared.Side.the-variants.{Stored}
 use Rattle.rules.specs.Rules.{rulesOf, startOf}
-use Rattle.text.specs.Text.{decimal}
-use Rattle.text.specs.Laid.{laid}
+use Rattle.writing.specs.Laid.{laid}
+use Rattle.digits.specs.Digits.{decimal}
 use Rattle.lines.specs.declared.Line.{Line}
 use Rattle.sheet.specs.Sheet.{blockLines, faulty, skips, countOf, linesText}
 use Rattle.records.specs.Record.{recordAnswer, describedBy, segmentIn}

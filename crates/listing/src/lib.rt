@@ -3,14 +3,14 @@ ghost use mathlib.Core.Path.{_≡_};
 ghost use Prim.Native.Nat.{_+_, _≤_, _^_};
 ghost use lib.ListN.{length};
 ghost use Rattle.segment.specs.Segment.{Segment, lengthOf};
-ghost use Rattle.text.specs.Laid.{Written};
+ghost use Rattle.writing.specs.Laid.{Written};
 ghost use Rattle.sheet.specs.Sheet.{Printed, Room};
 ghost use Rattle.listing.specs.Listing.{linesOf, numbersText, listedText, refusedText, Listed};
 use answer::Answer;
 use command::Operation;
-use rules::Side;
 use segment::Description;
 use sheet::Sheet;
+use sides::Side;
 
 // The one line of a refusal.
 fn print_refused(out: &mut [u8], a: Answer) -> usize
@@ -54,7 +54,7 @@ fn print_listed(d: Description, s: &[u8], out: &mut [u8]) -> usize
     requires { ⌜ length (now s) ≤ 65536 ⌝ }
     ensures { λ r. ⌜ Written (listedText d (now (s .entry))) 0 (now (out .entry)) r (now (out .exit)) ⌝ }
 {
-    let at = text::put_word(out, 0, b"lba interval guard app ref state\n");
+    let at = writing::put_word(out, 0, b"lba interval guard app ref state\n");
     let sheet = print_segment(
         d,
         s,

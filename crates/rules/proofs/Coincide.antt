@@ -3,14 +3,10 @@
 -- Assumes nothing.
 use mathlib.Core.Path.{_≡_, sym, _∙_}
 use Rattle.rules.proofs.rules.Reads as rules-reads
-use Rattle.rules.proofs.checked_on.Reads as checked-on-reads
 use Rattle.rules.proofs.start.Reads as start-reads
 
 pub rules : (κs : _) (a : _) (x y : _) (s t : _) → rules-reads.Post κs a x s → rules-reads.Post κs a y t → x ≡ y
 rules κs a x y s t p q = p ∙ sym q
-
-pub checked-on : (κs : _) (a : _) (x y : _) (s t : _) → checked-on-reads.Post κs a x s → checked-on-reads.Post κs a y t → x ≡ y
-checked-on κs a x y s t p q = p ∙ sym q
 
 pub start : (κs : _) (a : _) (x y : _) (s t : _) → start-reads.Post κs a x s → start-reads.Post κs a y t → x ≡ y
 start κs a x y s t p q = p ∙ sym q

@@ -1,20 +1,18 @@
--- What is checked, from the facts that decide it.
+-- How it is checked, from the facts that decide it.
 -- Assumes nothing.
-use mathlib.Core.Path.{_≡_, refl}
-use mathlib.Core.Bool.{Bool, true, false, _&&_, cond}
+use mathlib.Core.Path.{_≡_}
+use mathlib.Core.Bool.{Bool, false, _&&_}
 use Prim.Native.Nat.{ℕ, _%_, _^_}
-use borrow.Author.Tests.{eq-eqb, ne-eqb, eqb-false}
-use lib.Dec.{eqb}
+use borrow.Author.Tests.{eq-eqb, ne-eqb}
 use Rattle.segment.specs.declared.Description.{Description}
 use Rattle.segment.specs.Segment.{intervalsOf, sizeOf}
 use Rattle.command.specs.declared.Command.{Command}
 use Rattle.interval.specs.declared.Escape.{Escape}
 use Rattle.interval.specs.declared.Rules.{Rules}
 use Rattle.interval.specs.declared.Place.{Place}
+use Rattle.sides.specs.declared.Side.{Side}
 use Rattle.rules.specs.declared.Columns.{Columns}
-use Rattle.rules.specs.declared.Side.{Side}
 use Rattle.rules.specs.Rules.{columnsIn, columnsOf, applicationKnown, referenceKnown, firstTag, escapeOf, rulesOf, startOf}
-use Rattle.rules.specs.Sides.{checksOn, checkedOn}
 
 -- no code of the table's: nothing is checked
 pub no-code : (n : ℕ) → (n ≡ 0 → ⊥) → (n ≡ 1 → ⊥) → (n ≡ 2 → ⊥) → (n ≡ 3 → ⊥) → (n ≡ 4 → ⊥) → (n ≡ 5 → ⊥) → columnsOf n ≡ columnsIn false false false
@@ -41,35 +39,3 @@ module _ (d : Description) (c : Command) where
   pub start-is : (t : ℕ) → t ≡ firstTag d c → _≡_ {A = Place} (record { address = c .address; interval = 0; tag = t }) (startOf d c)
   unfolding startOf
   start-is t e = rw e
-
--- ---- a side that is checked is checked over all of the transfer's blocks
-module _ (side : Side) (d : Description) (c : Command) where
-  pub record Checks : Type 0 where
-    pub fields : d .kind ≡ 0 → ⊥
-    pub checks : checksOn side (c .operation) c ≡ true
-    pub all : checkedOn side d c ≡ c .length
-
-  pub checks-all : (checkedOn side d c ≡ 0 → ⊥) → Checks
-  unfolding checkedOn
-  checks-all n = by (eqb (d .kind) 0) refl (checksOn side (c .operation) c) refl
-    where
-      by : (k : Bool) → eqb (d .kind) 0 ≡ k → (b : Bool) → checksOn side (c .operation) c ≡ b → Checks
-      by true k b e = absurd (n (rw k))
-      by false k true e = record { fields = eqb-false (d .kind) 0 k; checks = e; all = rw (k, e) }
-      by false k false e = absurd (n (rw (k, e)))
-
-  pub checked-plain : d .kind ≡ 0 → checkedOn side d c ≡ 0
-  unfolding checkedOn
-  checked-plain k = rw (eq-eqb (d .kind) 0 k)
-
-  pub checked-all : (d .kind ≡ 0 → ⊥) → checksOn side (c .operation) c ≡ true → checkedOn side d c ≡ c .length
-  unfolding checkedOn
-  checked-all n e = rw (ne-eqb (d .kind) 0 n, e)
-
-  pub checked-none : checksOn side (c .operation) c ≡ false → checkedOn side d c ≡ 0
-  unfolding checkedOn
-  checked-none e = rw e (by (eqb (d .kind) 0))
-    where
-      by : (k : Bool) → _≡_ {A = ℕ} (cond k 0 0) 0
-      by true = refl
-      by false = refl

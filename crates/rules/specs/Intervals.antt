@@ -10,7 +10,7 @@ use Rattle.segment.specs.Places.{blockAt, intervalAt}
 use Rattle.command.specs.declared.Command.{Command}
 use Rattle.interval.specs.declared.Place.{Place}
 use Rattle.interval.specs.Interval.{anyEscapes, judgeInterval}
-use Rattle.rules.specs.declared.Side.{Side}
+use Rattle.sides.specs.declared.Side.{Side}
 use Rattle.rules.specs.Rules.{rulesOf, firstTag}
 
 -- "the block's address and the interval's place in the transfer, from 0"; "Each later expected tag is one more than the one

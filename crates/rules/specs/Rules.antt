@@ -9,9 +9,9 @@ use Rattle.interval.specs.declared.Escape.{Escape}
 use Rattle.interval.specs.declared.Escape.the-variants.{Never, Tag, Both}
 use Rattle.interval.specs.declared.Rules.{Rules}
 use Rattle.interval.specs.declared.Place.{Place}
+use Rattle.sides.specs.declared.Side.{Side}
+use Rattle.sides.specs.declared.Side.the-variants.{Sent, Stored}
 use Rattle.rules.specs.declared.Columns.{Columns}
-use Rattle.rules.specs.declared.Side.{Side}
-use Rattle.rules.specs.declared.Side.the-variants.{Sent, Stored}
 
 abbrev pub columnsIn : Bool → Bool → Bool → Columns
 columnsIn g a r = record { guard = g; application = a; reference = r }

@@ -1,20 +1,13 @@
-// What a transfer checks, and on which side: from the description and the command to the rules of judging and the first tags.
+// How a transfer's intervals are judged: from the description and the command to the rules of judging and the first tags.
 ghost use mathlib.Core.Path.{_≡_};
 ghost use Rattle.segment.specs.Segment.{Segment};
 ghost use Rattle.rules.specs.Rules.{columnsIn, columnsOf, applicationKnown, referenceKnown, firstTag, escapeOf, rulesOf, startOf};
-ghost use Rattle.rules.specs.Sides.{checksOn, checkedOn};
 use command::Command;
-use command::Operation;
 use interval::Escape;
 use interval::Place;
 use interval::Rules;
 use segment::Description;
-
-// What is judged: the blocks that a command sends, or the stored ones.
-pub enum Side {
-    Sent,
-    Stored,
-}
+use sides::Side;
 
 // Which fields a protect code chooses.
 pub struct Columns {
@@ -96,38 +89,6 @@ pub fn rules(side: Side, d: Description, c: Command) -> Rules
         mask: c.mask,
         escape: escape_of(side, d.kind),
     }
-}
-
-// Whether an operation checks a side.
-fn checks_on(side: Side, o: Operation, c: Command) -> bool
-    ensures { λ r. ⌜ r ≡ checksOn side o c ⌝ }
-{
-    match side {
-        Side::Sent => match o {
-            Operation::Read => false,
-            Operation::Write => c.code != 0,
-            Operation::Verify => false,
-        },
-        Side::Stored => match o {
-            Operation::Read => true,
-            Operation::Write => false,
-            Operation::Verify => true,
-        },
-    }
-}
-
-// How many blocks of a side are checked: all of the transfer's or none.
-pub fn checked_on(side: Side, d: Description, c: Command) -> u64
-    ensures { λ r. ⌜ r ≡ checkedOn side d c ⌝ }
-{
-    if d.kind == 0 {
-        return 0;
-    }
-    let o = c.operation;
-    if checks_on(side, o, c) {
-        return c.length;
-    }
-    0
 }
 
 // Where judging starts.

@@ -6,8 +6,8 @@ use Prim.Native.Nat.{ℕ, _+_, _*_, _^_, _≤_}
 use native.Mathlib.Nat.{add-zero}
 use native.Mathlib.Omega.{arith}
 use lib.ListN.{length, length-append}
-use Rattle.text.specs.Laid.{Written}
-use Rattle.text.proofs.Writing.{written-none, written-then, written-as}
+use Rattle.writing.specs.Laid.{Written}
+use Rattle.writing.proofs.Writing.{written-none, written-then, written-as}
 use Rattle.lines.specs.declared.Line.{Line}
 use Rattle.sheet.specs.declared.Sheet.{Sheet}
 use Rattle.lines.specs.declared.State.{State}

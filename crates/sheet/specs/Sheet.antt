@@ -8,7 +8,7 @@ use Rattle.interval.specs.declared.Rules.{Rules}
 use Rattle.interval.specs.declared.Place.{Place}
 use Rattle.interval.specs.Interval.{anyEscapes}
 use Rattle.judge.specs.Judge.{nextInterval, nextBlock}
-use Rattle.text.specs.Laid.{Written}
+use Rattle.writing.specs.Laid.{Written}
 use Rattle.lines.specs.declared.Line.{Line}
 use Rattle.lines.specs.declared.State.{State}
 use Rattle.lines.specs.declared.State.the-variants.{Skipped, Guard, Ref, Ok}

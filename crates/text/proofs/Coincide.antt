@@ -3,25 +3,9 @@
 -- Assumes nothing.
 use mathlib.Core.Path.{_≡_, sym, _∙_}
 use denote.Ref.{now}
-use Rattle.text.proofs.put.Reads as put-reads
-use Rattle.text.proofs.put_word.Reads as put-word-reads
-use Rattle.text.proofs.hexadecimal.Reads as hexadecimal-reads
-use Rattle.text.proofs.decimal.Reads as decimal-reads
 use Rattle.text.proofs.decimal_then.Reads as decimal-then-reads
 use Rattle.text.proofs.hexadecimal_then.Reads as hexadecimal-then-reads
 use Rattle.text.proofs.labelled.Reads as labelled-reads
-
-pub put : (κs : _) (a : _) (x y : _) (s t : _) → put-reads.Post κs a x s → put-reads.Post κs a y t → (x ≡ y) × (now (s .0) ≡ now (t .0))
-put κs a x y s t p q = (p .end ∙ sym (q .end), p .now ∙ sym (q .now))
-
-pub put-word : (κs : _) (a : _) (x y : _) (s t : _) → put-word-reads.Post κs a x s → put-word-reads.Post κs a y t → (x ≡ y) × (now (s .0) ≡ now (t .0))
-put-word κs a x y s t p q = (p .end ∙ sym (q .end), p .now ∙ sym (q .now))
-
-pub hexadecimal : (κs : _) (a : _) (x y : _) (s t : _) → hexadecimal-reads.Post κs a x s → hexadecimal-reads.Post κs a y t → (x ≡ y) × (now (s .0) ≡ now (t .0))
-hexadecimal κs a x y s t p q = (p .end ∙ sym (q .end), p .now ∙ sym (q .now))
-
-pub decimal : (κs : _) (a : _) (x y : _) (s t : _) → decimal-reads.Post κs a x s → decimal-reads.Post κs a y t → (x ≡ y) × (now (s .0) ≡ now (t .0))
-decimal κs a x y s t p q = (p .end ∙ sym (q .end), p .now ∙ sym (q .now))
 
 pub decimal-then : (κs : _) (a : _) (x y : _) (s t : _) → decimal-then-reads.Post κs a x s → decimal-then-reads.Post κs a y t → (x ≡ y) × (now (s .0) ≡ now (t .0))
 decimal-then κs a x y s t p q = (p .end ∙ sym (q .end), p .now ∙ sym (q .now))

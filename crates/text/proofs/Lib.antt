@@ -1,4 +1,2 @@
-pub mod Writing
-pub mod Digits
-pub mod Demands
+pub mod Ends
 pub mod Coincide

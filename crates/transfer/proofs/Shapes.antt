@@ -19,10 +19,10 @@ use Rattle.segment.proofs.Laws.{sizes, stored-intervals, stored-plain}
 use Rattle.command.specs.declared.Command.{Command}
 use Rattle.judge.specs.FirstOf.{firstOf}
 use Rattle.judge.specs.Judge.{Run, judgeBlocks}
-use Rattle.rules.specs.declared.Side.{Side}
+use Rattle.sides.specs.declared.Side.{Side}
+use Rattle.sides.specs.Sides.{checksOn, checkedOn}
+use Rattle.sides.proofs.Laws.{checks-all, checked-all}
 use Rattle.rules.specs.Rules.{rulesOf, startOf}
-use Rattle.rules.specs.Sides.{checksOn, checkedOn}
-use Rattle.rules.proofs.Laws.{checks-all, checked-all}
 use Rattle.marks.specs.Inserted.{marksOf}
 use Rattle.insertion.specs.declared.Marks.{Marks}
 use Rattle.blocks.specs.Blocks.{userData}

@@ -6,8 +6,8 @@ use Rattle.segment.specs.Segment.{Segment}
 use Rattle.segment.specs.Places.{spanOf}
 use Rattle.command.specs.declared.Command.{Command}
 use Rattle.refusal.specs.Refusal.{movedOf}
-use Rattle.rules.specs.declared.Side.{Side}
-use Rattle.rules.specs.Sides.{checkedOn}
+use Rattle.sides.specs.declared.Side.{Side}
+use Rattle.sides.specs.Sides.{checkedOn}
 
 -- the transfer is one of a segment
 pub record Shaped (d : Description) (c : Command) : Type 0 where

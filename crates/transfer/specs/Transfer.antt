@@ -12,10 +12,10 @@ use Rattle.command.specs.declared.Command.{Command}
 use Rattle.judge.specs.Judge.{judgeBlocks}
 use Rattle.blocks.specs.Blocks.{userData}
 use Rattle.insertion.specs.Insertion.{storedBlocks}
-use Rattle.rules.specs.declared.Side.{Side}
-use Rattle.rules.specs.declared.Side.the-variants.{Sent, Stored}
+use Rattle.sides.specs.declared.Side.{Side}
+use Rattle.sides.specs.declared.Side.the-variants.{Sent, Stored}
+use Rattle.sides.specs.Sides.{checkedOn}
 use Rattle.rules.specs.Rules.{rulesOf, startOf}
-use Rattle.rules.specs.Sides.{checkedOn}
 use Rattle.marks.specs.Inserted.{marksOf}
 
 -- "the transfer's blocks"

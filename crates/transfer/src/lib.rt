@@ -9,8 +9,8 @@ ghost use Rattle.transfer.specs.Transfer.{whole, judgedOn, judged, hande
 ghost use Rattle.transfer.specs.Inner.{Shaped, Sided, Fitted};
 use answer::Answer;
 use command::Command;
-use rules::Side;
 use segment::Description;
+use sides::Side;
 
 // Whether blocks are moved whole: with their fields, or of type 0, which has no fields.
 fn whole(d: Description, c: Command) -> bool
@@ -26,7 +26,7 @@ fn judge_on(t: &[u16; 256], side: Side, d: Description, c: Command, s: &[u8]) ->
     requires { ⌜ Sided side d c (length (now s)) ⌝ }
     ensures { λ a. ⌜ a ≡ judgedOn side d c (now (s .entry)) ⌝ }
 {
-    let count = rules::checked_on(side, d, c);
+    let count = sides::checked_on(side, d, c);
     if count == 0 {
         return Answer::Good;
     }

@@ -12,9 +12,9 @@ use Rattle.answer.specs.declared.Reason.{Reason}
 use Rattle.segment.specs.declared.Description.{Description}
 use Rattle.segment.specs.Rules.{segmentRules}
 use Rattle.segment.proofs.Rules.{fitting}
-use Rattle.command.specs.Command.{decode}
 use Rattle.command.specs.declared.Command.{Command}
-use Rattle.command.specs.declared.Decoded.the-variants as decoded
+use Rattle.decoding.specs.Commands.{decode}
+use Rattle.decoding.specs.declared.Decoded.the-variants as decoded
 use Rattle.refusal.specs.declared.Lengths.{Lengths}
 use Rattle.admission.specs.declared.Admitted.the-variants.{Refused}
 use Rattle.admission.specs.Admission.{admitCommand, admitted}

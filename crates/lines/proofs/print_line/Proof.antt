@@ -2,8 +2,8 @@
 -- Assumes nothing.
 use Prim.Native.Nat.{_+_, _≤_, _^_}
 use native.Mathlib.Omega.{arith}
-use Rattle.text.proofs.Writing.{written-length}
-use Rattle.text.proofs.Digits.{decimal-then-end, hexadecimal-then-end}
+use Rattle.writing.proofs.Writing.{written-length}
+use Rattle.text.proofs.Ends.{decimal-then-end, hexadecimal-then-end}
 use Rattle.lines.proofs.LineLaws.{line-written, state-end}
 use Rattle.lines.proofs.print_line.Statement.{statement}
 use Rattle.lines.proofs.print_line.Tie as tie

@@ -1,7 +1,7 @@
 -- `lines::print_state`: the word of each state.
 -- Assumes nothing.
 use mathlib.Core.Path.{refl, sym, ap}
-use Rattle.text.proofs.Writing.{written-as}
+use Rattle.writing.proofs.Writing.{written-as}
 use Rattle.lines.specs.Lines.{stateText}
 use borrow.Author.Needs.{needs}
 use Rattle.lines.proofs.print_state.Statement.{statement}

@@ -3,7 +3,7 @@
 use mathlib.Core.Path.{refl}
 use native.Mathlib.Omega.{arith}
 use lib.Dec.{lit≤}
-use Rattle.text.proofs.Writing.{written-length}
+use Rattle.writing.proofs.Writing.{written-length}
 use Rattle.sheet.proofs.SheetLaws.{first-room}
 use Rattle.listing.proofs.ListingLaws.{lines-end, listed-written}
 use Rattle.listing.specs.Listing.{headerText}

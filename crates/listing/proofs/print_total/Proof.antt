@@ -3,8 +3,8 @@
 use mathlib.Core.Path.{refl}
 use Prim.Native.Nat.{_+_, _≤_, _^_}
 use native.Mathlib.Omega.{arith}
-use Rattle.text.proofs.Writing.{written-length}
-use Rattle.text.proofs.Digits.{labelled-end}
+use Rattle.writing.proofs.Writing.{written-length}
+use Rattle.text.proofs.Ends.{labelled-end}
 use Rattle.listing.specs.Listing.{intervalsText, faultsText, skippedText}
 use Rattle.listing.proofs.ListingLaws.{numbers-written}
 use borrow.Author.Needs.{needs}

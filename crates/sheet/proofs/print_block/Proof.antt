@@ -12,7 +12,7 @@ use Rattle.interval.specs.declared.Rules.{Rules}
 use Rattle.interval.specs.declared.Place.{Place}
 use Rattle.interval.specs.Interval.{anyEscapes}
 use Rattle.judge.specs.Judge.{nextInterval, Run}
-use Rattle.text.proofs.Writing.{written-length}
+use Rattle.writing.proofs.Writing.{written-length}
 use Rattle.lines.specs.declared.Line.{Line}
 use Rattle.sheet.specs.declared.Sheet.{Sheet}
 use Rattle.lines.specs.Lines.{lineOf}

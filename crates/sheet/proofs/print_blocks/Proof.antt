@@ -12,7 +12,7 @@ use Rattle.interval.specs.declared.Rules.{Rules}
 use Rattle.interval.specs.declared.Place.{Place}
 use Rattle.judge.specs.Judge.{nextBlock, Run}
 use Rattle.judge.proofs.BlockLaws.{first-within, first-run, first-room, rest-run, block-fits}
-use Rattle.text.proofs.Writing.{written-length}
+use Rattle.writing.proofs.Writing.{written-length}
 use Rattle.lines.specs.declared.Line.{Line}
 use Rattle.sheet.specs.declared.Sheet.{Sheet}
 use Rattle.sheet.specs.Sheet.{linesIn, blockLines, Printed, Room}

@@ -1,8 +1,8 @@
 -- `text::decimal_then`: one text after another.
 -- Assumes nothing.
 use native.Mathlib.Omega.{arith}
-use Rattle.text.proofs.Writing.{written-then}
-use Rattle.text.proofs.Digits.{decimal-end}
+use Rattle.writing.proofs.Writing.{written-then}
+use Rattle.digits.proofs.Digits.{decimal-end}
 use borrow.Author.Needs.{needs}
 use Rattle.text.proofs.decimal_then.Statement.{statement}
 use Rattle.text.proofs.decimal_then.Tie as tie

@@ -1,8 +1,8 @@
 -- `text::hexadecimal_then`: one text after another.
 -- Assumes nothing.
 use native.Mathlib.Omega.{arith}
-use Rattle.text.proofs.Writing.{written-then}
-use Rattle.text.proofs.Digits.{hexadecimal-end}
+use Rattle.writing.proofs.Writing.{written-then}
+use Rattle.digits.proofs.Digits.{hexadecimal-end}
 use borrow.Author.Needs.{needs}
 use Rattle.text.proofs.hexadecimal_then.Statement.{statement}
 use Rattle.text.proofs.hexadecimal_then.Tie as tie

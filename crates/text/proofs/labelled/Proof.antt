@@ -1,7 +1,7 @@
 -- `text::labelled`: one text after another.
 -- Assumes nothing.
 use native.Mathlib.Omega.{arith}
-use Rattle.text.proofs.Writing.{written-then}
+use Rattle.writing.proofs.Writing.{written-then}
 use borrow.Author.Needs.{needs}
 use Rattle.text.proofs.labelled.Statement.{statement}
 use Rattle.text.proofs.labelled.Tie as tie

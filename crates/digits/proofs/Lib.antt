@@ -1,0 +1,3 @@
+pub mod Digits
+pub mod Demands
+pub mod Coincide
