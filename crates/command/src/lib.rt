@@ -1,4 +1,4 @@
-// What a command asks for, by value; and what asks like a 16-byte command with code 001.
+// What a command asks for, by value; and what a 16-byte command with code 001 asks.
 ghost use mathlib.Core.Path.{_≡_};
 ghost use Rattle.command.specs.Sixteen.{sixteen};
 

@@ -1,4 +1,4 @@
--- Words and numbers as they are printed.
+-- Numbers as they are printed.
 use Prim.Native.Nat.{ℕ, zero, suc, _+_, _/_, _%_}
 use mathlib.Core.Bool.{cond}
 use mathlib.Core.List.{List, [], _∷_, _++_}

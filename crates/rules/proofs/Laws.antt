@@ -1,4 +1,4 @@
--- How it is checked, from the facts that decide it.
+-- The rules of judging and the first tag, from the facts that decide them.
 -- Assumes nothing.
 use mathlib.Core.Path.{_≡_}
 use mathlib.Core.Bool.{Bool, false, _&&_}

@@ -1,4 +1,4 @@
-// What is judged is one of two sides: which of them an operation checks, and over how many blocks.
+// What is judged is one of two sides; here stands which of them an operation checks, and over how many blocks.
 ghost use mathlib.Core.Path.{_≡_};
 ghost use Rattle.sides.specs.Sides.{checksOn, checkedOn};
 use command::Command;

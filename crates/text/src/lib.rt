@@ -1,4 +1,4 @@
-// A number, a word before it and a byte behind it, printed to a lent buffer.
+// A number with a byte behind it, or between a word and a byte, printed to a lent buffer.
 ghost use mathlib.Core.List.{_∷_, [], _++_};
 ghost use Prim.Native.Nat.{_+_, _≤_, _<_, _^_};
 ghost use lib.ListN.{length};

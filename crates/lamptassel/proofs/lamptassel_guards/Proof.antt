@@ -1,4 +1,4 @@
--- `lamptassel::lamptassel_guards`: the number of `guard::guards`' answer.
+-- `lamptassel::lamptassel_guards`: the number of `guards::guards`' answer.
 -- Assumes nothing.
 use borrow.Author.Needs.{needs}
 use Rattle.lamptassel.proofs.lamptassel_guards.Statement.{statement}
