@@ -5,7 +5,7 @@ use mathlib.Core.Path.{_≡_, refl, sym}
 use mathlib.Core.Bool.{Bool, true, false, _&&_}
 use mathlib.Core.List.{map}
 use lib.Dec.{eqb, leb}
-use Rattle.answer.specs.Answer.{fieldNumber, reasonNumber, numberOf, isGood, forProtection, senseNumbered, Row, table, inTable}
+use Rattle.answer.specs.Answer.{Row, fieldRow, reasonRow, numberOf, senseOf, isGood, forProtection, senseNumbered, table, inTable}
 use Rattle.answer.specs.Outcome.{leaving}
 use Rattle.answer.specs.declared.Answer.{Answer}
 use Rattle.answer.specs.declared.Answer.the-variants.{Good, Wrong, Refused}
@@ -14,27 +14,28 @@ use Rattle.answer.specs.declared.Field.the-variants.{Guard, Application,
 use Rattle.answer.specs.declared.Reason.{Reason}
 use Rattle.answer.specs.declared.Reason.the-variants.{DescriptionBad, SegmentLengthWrong, CommandLengthWrong, BufferLengthWrong, OperationInvalid, FieldInvalid, AddressOutOfRange, StripeShapeBad, ParameterInvalid, ListingRecordBad, TransferTooLarge}
 
--- a number of the table, not 0, that stands for a failed check or not
-abbrev There : ℕ → Bool → Type 0
-There n p = (eqb n 0 ≡ false) × (inTable n ≡ true) × (leb 8 n && leb n 10 ≡ p)
+-- a row of the table, not that of 0, that stands for a failed check or not; by its number its sense is found
+abbrev There : Row → Bool → Type 0
+There r p =
+    (eqb (r .number) 0 ≡ false) × (inTable (r .number) ≡ true) × (leb 8 (r .number) && leb (r .number) 10 ≡ p) × (senseNumbered (r .number) ≡ r .sense)
 
-field-there : (f : Field) → There (fieldNumber f) true
-field-there Guard = (refl, refl, refl)
-field-there Application = (refl, refl, refl)
-field-there Reference = (refl, refl, refl)
+field-there : (f : Field) → There (fieldRow f) true
+field-there Guard = (refl, refl, refl, refl)
+field-there Application = (refl, refl, refl, refl)
+field-there Reference = (refl, refl, refl, refl)
 
-reason-there : (r : Reason) → There (reasonNumber r) false
-reason-there DescriptionBad = (refl, refl, refl)
-reason-there SegmentLengthWrong = (refl, refl, refl)
-reason-there CommandLengthWrong = (refl, refl, refl)
-reason-there BufferLengthWrong = (refl, refl, refl)
-reason-there OperationInvalid = (refl, refl, refl)
-reason-there FieldInvalid = (refl, refl, refl)
-reason-there AddressOutOfRange = (refl, refl, refl)
-reason-there StripeShapeBad = (refl, refl, refl)
-reason-there ParameterInvalid = (refl, refl, refl)
-reason-there ListingRecordBad = (refl, refl, refl)
-reason-there TransferTooLarge = (refl, refl, refl)
+reason-there : (r : Reason) → There (reasonRow r) false
+reason-there DescriptionBad = (refl, refl, refl, refl)
+reason-there SegmentLengthWrong = (refl, refl, refl, refl)
+reason-there CommandLengthWrong = (refl, refl, refl, refl)
+reason-there BufferLengthWrong = (refl, refl, refl, refl)
+reason-there OperationInvalid = (refl, refl, refl, refl)
+reason-there FieldInvalid = (refl, refl, refl, refl)
+reason-there AddressOutOfRange = (refl, refl, refl, refl)
+reason-there StripeShapeBad = (refl, refl, refl, refl)
+reason-there ParameterInvalid = (refl, refl, refl, refl)
+reason-there ListingRecordBad = (refl, refl, refl, refl)
+reason-there TransferTooLarge = (refl, refl, refl, refl)
 
 -- "0 good": "Any answer but 0" is a refusal
 pub good-is-zero : (a : Answer) → isGood a ≡ eqb (numberOf a) 0
@@ -58,6 +59,11 @@ refused-for-no-field r = reason-there r .2
 -- "| sense |": of each of the table's numbers the sense that stands in its row
 pub senses-as-listed : map (λ (r : Row). senseNumbered (r .number)) table ≡ map (λ (r : Row). r .sense) table
 senses-as-listed = refl
+
+pub sense-by-number : (a : Answer) → senseNumbered (numberOf a) ≡ senseOf a
+sense-by-number Good = refl
+sense-by-number (Wrong f a p) = field-there f .3
+sense-by-number (Refused r) = reason-there r .3
 
 -- "Any answer but 0 changes no lent byte"
 pub refused-leaves : {L : Type 0} (a : Answer) (old new : L) → isGood (leaving a old new .answer) ≡ false → leaving a old new .left ≡ old

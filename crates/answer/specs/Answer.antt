@@ -10,31 +10,50 @@ use Rattle.answer.specs.declared.Field.the-variants.{Guard, Application,
 use Rattle.answer.specs.declared.Reason.{Reason}
 use Rattle.answer.specs.declared.Reason.the-variants.{DescriptionBad, SegmentLengthWrong, CommandLengthWrong, BufferLengthWrong, OperationInvalid, FieldInvalid, AddressOutOfRange, StripeShapeBad, ParameterInvalid, ListingRecordBad, TransferTooLarge}
 
--- "8, 9, 10 | guard, application, reference check failed"
-abbrev pub fieldNumber : Field → ℕ
-fieldNumber Guard = 8
-fieldNumber Application = 9
-fieldNumber Reference = 10
+-- "| no. | meaning | sense |": a row's number, and its sense: key, code and qualifier, two hexadecimal digits each (05/20/00 is 0x05_20_00);
+-- 0 where the table has none
+pub record Row : Type 0 where
+  pub number : ℕ
+  pub sense : ℕ
 
--- the other refusals, in the table's order
-abbrev pub reasonNumber : Reason → ℕ
-reasonNumber DescriptionBad = 1
-reasonNumber SegmentLengthWrong = 2
-reasonNumber CommandLengthWrong = 3
-reasonNumber BufferLengthWrong = 4
-reasonNumber OperationInvalid = 5
-reasonNumber FieldInvalid = 6
-reasonNumber AddressOutOfRange = 7
-reasonNumber StripeShapeBad = 11
-reasonNumber ParameterInvalid = 12
-reasonNumber ListingRecordBad = 13
-reasonNumber TransferTooLarge = 14
+abbrev row : ℕ → ℕ → Row
+row n s = record { number = n; sense = s }
 
 -- "0 | good"
+abbrev pub goodRow : Row
+goodRow = row 0 0
+
+-- "8, 9, 10 | guard, application, reference check failed"
+abbrev pub fieldRow : Field → Row
+fieldRow Guard = row 8 0x0B_10_01
+fieldRow Application = row 9 0x0B_10_02
+fieldRow Reference = row 10 0x0B_10_03
+
+-- the other refusals, in the table's order
+abbrev pub reasonRow : Reason → Row
+reasonRow DescriptionBad = row 1 0
+reasonRow SegmentLengthWrong = row 2 0
+reasonRow CommandLengthWrong = row 3 0
+reasonRow BufferLengthWrong = row 4 0
+reasonRow OperationInvalid = row 5 0x05_20_00
+reasonRow FieldInvalid = row 6 0x05_24_00
+reasonRow AddressOutOfRange = row 7 0x05_21_00
+reasonRow StripeShapeBad = row 11 0
+reasonRow ParameterInvalid = row 12 0x05_26_00
+reasonRow ListingRecordBad = row 13 0
+reasonRow TransferTooLarge = row 14 0
+
+-- the row of an answer: its number and its sense follow
+abbrev pub rowOf : Answer → Row
+rowOf Good = goodRow
+rowOf (Wrong f a p) = fieldRow f
+rowOf (Refused r) = reasonRow r
+
 abbrev pub numberOf : Answer → ℕ
-numberOf Good = 0
-numberOf (Wrong f a p) = fieldNumber f
-numberOf (Refused r) = reasonNumber r
+numberOf a = rowOf a .number
+
+abbrev pub senseOf : Answer → ℕ
+senseOf a = rowOf a .sense
 
 -- "Numbers 8 to 10 also give the block's address and the interval's place in the transfer, from 0; all others give 0 and 0."
 abbrev pub addressOf : Answer → ℕ
@@ -64,21 +83,14 @@ refusedIf b r = cond b (Refused r) Good
 abbrev pub orElse : Answer → Answer → Answer
 orElse a b = cond (isGood a) b a
 
--- "| no. | meaning | sense |", row by row: the number, and its sense: key, code and qualifier, two hexadecimal digits each (05/20/00 is
--- 0x05_20_00); 0 where the table has none
-pub record Row : Type 0 where
-  pub number : ℕ
-  pub sense : ℕ
-
-abbrev row : ℕ → ℕ → Row
-row n s = record { number = n; sense = s }
-
+-- the table: all its rows
 abbrev pub table : List Row
 table =
-    row 0 0 ∷ row 1 0 ∷ row 2 0 ∷ row 3 0 ∷ row 4 0
-    ∷ row 5 0x05_20_00 ∷ row 6 0x05_24_00 ∷ row 7 0x05_21_00
-    ∷ row 8 0x0B_10_01 ∷ row 9 0x0B_10_02 ∷ row 10 0x0B_10_03
-    ∷ row 11 0 ∷ row 12 0x05_26_00 ∷ row 13 0 ∷ row 14 0 ∷ []
+    goodRow
+    ∷ reasonRow DescriptionBad ∷ reasonRow SegmentLengthWrong ∷ reasonRow CommandLengthWrong ∷ reasonRow BufferLengthWrong
+    ∷ reasonRow OperationInvalid ∷ reasonRow FieldInvalid ∷ reasonRow AddressOutOfRange
+    ∷ fieldRow Guard ∷ fieldRow Application ∷ fieldRow Reference
+    ∷ reasonRow StripeShapeBad ∷ reasonRow ParameterInvalid ∷ reasonRow ListingRecordBad ∷ reasonRow TransferTooLarge ∷ []
 
 -- the sense in the row of a number; 0 for a number that is not in the table
 abbrev pub senseIn : List Row → ℕ → ℕ
@@ -87,9 +99,6 @@ senseIn (r ∷ rs) n = cond (eqb n (r .number)) (r .sense) (senseIn rs n)
 
 abbrev pub senseNumbered : ℕ → ℕ
 senseNumbered n = senseIn table n
-
-abbrev pub senseOf : Answer → ℕ
-senseOf a = senseNumbered (numberOf a)
 
 -- whether a number is one of the table's
 abbrev pub isNumberIn : List Row → ℕ → Bool

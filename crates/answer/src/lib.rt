@@ -1,6 +1,6 @@
 // The answers of document 01's table, and the numbers and senses of the paper.
 ghost use mathlib.Core.Path.{_≡_};
-ghost use Rattle.answer.specs.Answer.{fieldNumber, reasonNumber, numberOf, addressOf, placeOf, isGood, refusedIf, senseNumbered};
+ghost use Rattle.answer.specs.Answer.{fieldRow, reasonRow, numberOf, addressOf, placeOf, isGood, refusedIf, senseNumbered};
 
 // A field of an interval.
 pub enum Field {
@@ -32,7 +32,7 @@ pub enum Answer {
 }
 
 fn field_number(f: Field) -> u64
-    ensures { λ r. ⌜ r ≡ fieldNumber f ⌝ }
+    ensures { λ r. ⌜ r ≡ fieldRow f .number ⌝ }
 {
     match f {
         Field::Guard => 8,
@@ -42,7 +42,7 @@ fn field_number(f: Field) -> u64
 }
 
 fn reason_number(r: Reason) -> u64
-    ensures { λ n. ⌜ n ≡ reasonNumber r ⌝ }
+    ensures { λ n. ⌜ n ≡ reasonRow r .number ⌝ }
 {
     match r {
         Reason::DescriptionBad => 1,

@@ -3,12 +3,14 @@
 use mathlib.Core.Path.{_≡_, refl, sym, ap, ap₂, _∙_}
 use mathlib.Core.List.{List, [], _∷_, _++_, append-assoc}
 use Prim.Native.Nat.{ℕ, zero, suc, _+_, _-_, _*_, _≤_}
-use native.Mathlib.Nat.{suc-mul, zero-mul, zero-add, suc-add, le-of-eq}
+use native.Mathlib.Nat.{suc-mul, zero-mul, le-of-eq}
 use native.Mathlib.Omega.{arith}
 use lib.ListN.{length, take, drop, length-append, length-drop, take-append-drop}
 use lib.Seq.{drop-append-le, drop-at, take-add, length-take-le}
 use Rattle.words.specs.Runs.{runs}
-use Rattle.words.proofs.Parts.{part-at, one-more, drop-more}
+use Rattle.words.proofs.Parts.{part-at, one-more}
+use Rattle.words.proofs.Turns.{after-same}
+use Rattle.words.proofs.Runs.{runs-two}
 
 -- one piece, and the rest
 pub one-within : (k P n : ℕ) → suc k * P ≤ n → P ≤ n
@@ -78,19 +80,10 @@ runs-same (suc k) P s e =
 
 -- pieces that are all made alike, in lots of n
 module _ {A : Type 0} (piece : A → List ℕ → List ℕ) (P : ℕ) (t : A) where
-  runs-add : (a b : ℕ) (s : List ℕ) → runs piece (λ u. u) P (a + b) t s ≡ runs piece (λ u. u) P a t s ++ runs piece (λ u. u) P b t (drop (a * P) s)
-  unfolding runs
-  runs-add zero b s = rw (zero-add, zero-mul)
-  runs-add (suc a) b s =
-      rw suc-add
-      (ap (λ (l : List ℕ). piece t s ++ l)
-      (runs-add a b (drop P s)
-      ∙ ap (λ (l : List ℕ). runs piece (λ u. u) P a t (drop P s) ++ runs piece (λ u. u) P b t l) (drop-more P a s))
-      ∙ sym (append-assoc (piece t s) _ _))
-
   pub runs-lots : (n k : ℕ) (s : List ℕ) → runs piece (λ u. u) P (k * n) t s ≡ runs (λ (u : ℕ) (l : List ℕ). runs piece (λ u. u) P n t l) (λ u. u) (n * P) k 0 s
   unfolding runs
   runs-lots n zero s = rw zero-mul
   runs-lots n (suc k) s =
-      ap (λ (j : ℕ). runs piece (λ u. u) P j t s) (one-more k n) ∙ runs-add n (k * n) s
+      ap (λ (j : ℕ). runs piece (λ u. u) P j t s) (one-more k n) ∙ runs-two piece (λ u. u) P n (k * n) t s
+      ∙ ap (λ (u : A). runs piece (λ u. u) P n t s ++ runs piece (λ u. u) P (k * n) u (drop (n * P) s)) (after-same n t)
       ∙ ap (λ (l : List ℕ). runs piece (λ u. u) P n t s ++ l) (runs-lots n k (drop (n * P) s))

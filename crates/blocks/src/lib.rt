@@ -11,16 +11,14 @@ pub fn take_user_data(d: &mut [u8], s: &[u8], size: usize, count: usize)
     requires { ⌜ count * size ≡ length (now d) ⌝ }
     ensures { λ _. ⌜ now (d .exit) ≡ userData size count (now (s .entry)) ⌝ }
 {
-    let mut left = count;
-    let mut i: usize = 0;
-    let mut a: usize = 0;
-    while 0 < left {
+    let mut done: usize = 0;
+    while done < count {
+        let i = done * (size + 8);
         let m = i + size;
+        let a = done * size;
         let e = a + size;
         words::copy(&mut d[a..e], &s[i..m]);
-        i += size + 8;
-        a = e;
-        left -= 1;
+        done += 1;
     }
 }
 

@@ -36,7 +36,7 @@ use Rattle.judge.specs.Judge.{judgeBlocks}
 use Rattle.sides.specs.declared.Side.{Side}
 use Rattle.sides.specs.declared.Side.the-variants.{Sent, Stored}
 use Rattle.sides.specs.Sides.{checksOn}
-use Rattle.sides.proofs.Laws.{checked-none, checked-plain}
+use Rattle.sides.proofs.Laws.{sent-none, checked-none, checked-plain}
 use Rattle.rules.specs.Rules.{rulesOf, startOf, firstTag}
 use Rattle.rules.specs.Intervals.{placeAt}
 use Rattle.rules.proofs.Places.{tag-small}
@@ -98,16 +98,10 @@ module _ (a : Answer) (d : Description) (c : Command) (l : Lent) where
 
 -- two segments with the same blocks of the transfer, two buffers
 module _ (d : Description) (c : Command) (l m : Lent) (e : blocksOf d c (l .segment) ≡ blocksOf d c (m .segment)) where
-  -- nothing that is sent is checked
-  sent-none : (o : Operation) → (o ≡ Write → ⊥) → checksOn Sent o c ≡ false
-  sent-none Read n = refl
-  sent-none Write n = absurd (n refl)
-  sent-none Verify n = refl
-
   judged-alike : (c .operation ≡ Write → ⊥) → verdict d c l ≡ verdict d c m
   unfolding judged
   judged-alike n =
-      let none = checked-none Sent d c (sent-none (c .operation) n) in
+      let none = checked-none Sent d c (sent-none (c .operation) c n) in
       ap₂ orElse (judged-none Sent d c (l .buffer) none ∙ sym (judged-none Sent d c (m .buffer) none)) (ap (judgedOn Stored d c) e)
 
   performed-alike : (c .operation ≡ Write → ⊥) → Alike c (performed d c l) (performed d c m)

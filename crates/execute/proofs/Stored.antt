@@ -12,7 +12,7 @@ use Rattle.words.proofs.Parts.{put-length}
 use Rattle.segment.specs.declared.Description.{Description}
 use Rattle.segment.specs.Segment.{intervalsOf, sizeOf}
 use Rattle.segment.specs.Places.{offsetOf, spanOf, blocksFrom}
-use Rattle.segment.proofs.Places.{span-within}
+use Rattle.segment.proofs.Places.{span-within, span-intervals}
 use Rattle.command.specs.declared.Command.{Command}
 use Rattle.command.specs.declared.Operation.the-variants.{Write}
 use Rattle.blocks.specs.Blocks.{userData}
@@ -27,7 +27,7 @@ use Rattle.execute.specs.Lent.{Lent, lengthsOf}
 use Rattle.transfer.specs.Transfer.{blocksOf, whole, handed, received}
 use Rattle.execute.specs.Execute.{overwritten}
 use Rattle.execute.specs.Compared.{Beside}
-use Rattle.transfer.proofs.Shapes.{span-intervals, moved-intervals, moved-when-whole, parted, handed-whole, handed-parted, received-whole, received-parted}
+use Rattle.transfer.proofs.Shapes.{moved-intervals, moved-when-whole, parted, handed-whole, handed-parted, received-whole, received-parted}
 
 pub beside-itself : (d : Description) (c : Command) (s : List ℕ) → Beside d c s s
 beside-itself d c s = record { before = refl; behind = refl; long = refl }
@@ -57,7 +57,7 @@ module _ (d : Description) (c : Command) (l : Lent) (r : Ready d c (lengthsOf l)
       by false e =
           ap length (sym (inserted e))
           ∙ blocks-length (sizeOf d) (intervalsOf d) (c .length) (marksOf d c) buffer (le-of-eq (enough e))
-          ∙ span-intervals d c (r .described) (parted d c e .fields)
+          ∙ span-intervals d (r .described) (c .length) (parted d c e .fields)
 
   fits : offsetOf d (c .address) + length (received d c buffer) ≤ length segment
   fits = rw received-length (span-within d (c .address) (c .length) (length segment) (r .whole) (r .from) (r .to))

@@ -21,7 +21,7 @@ use Rattle.segment.proofs.Rules.{described-rule, length-right}
 use Rattle.segment.proofs.Places.{inside}
 use Rattle.command.specs.declared.Command.{Command}
 use Rattle.command.specs.declared.Operation.{Operation}
-use Rattle.command.specs.declared.Operation.the-variants.{Read, Write, Verify}
+use Rattle.command.specs.declared.Operation.the-variants.{Read, Write}
 use Rattle.decoding.specs.Commands.{decode}
 use Rattle.decoding.specs.declared.Decoded.the-variants.{Served}
 use Rattle.interval.specs.declared.Escape.{Escape}
@@ -33,8 +33,7 @@ use Rattle.judge.proofs.FirstLaws.{first-good}
 use Rattle.judge.proofs.BlockLaws.{block-escaped}
 use Rattle.blocks.specs.Blocks.{userData}
 use Rattle.sides.specs.declared.Side.the-variants.{Sent, Stored}
-use Rattle.sides.specs.Sides.{checksOn}
-use Rattle.sides.proofs.Laws.{checked-none}
+use Rattle.sides.proofs.Laws.{stored-all, sent-none, checked-none}
 use Rattle.rules.specs.Rules.{escapeOf, rulesOf, startOf}
 use Rattle.rules.specs.Intervals.{skipped}
 use Rattle.filling.specs.Fresh.{freshIntervals, filled}
@@ -76,17 +75,6 @@ first-escapes : (e : Escape) (size n : ℕ) (s : List ℕ) → 0 < n → escapes
 unfolding anyEscapes
 first-escapes e size zero s h x = absurd (omega arith)
 first-escapes e size (suc n) s h x = rw x refl
-
--- ---- a READ or VERIFY checks nothing that is sent
-sent-none : (o : Operation) (c : Command) → (o ≡ Write → ⊥) → checksOn Sent o c ≡ false
-sent-none Read c n = refl
-sent-none Write c n = absurd (n refl)
-sent-none Verify c n = refl
-
-stored-all : (o : Operation) (c : Command) → (o ≡ Write → ⊥) → checksOn Stored o c ≡ true
-stored-all Read c n = refl
-stored-all Write c n = absurd (n refl)
-stored-all Verify c n = refl
 
 read-no-write : (o : Operation) → o ≡ Read → o ≡ Write → ⊥
 read-no-write o r w = let z : _≡_ {A = ℕ} 0 1 = cc in omega arith

@@ -3,7 +3,7 @@
 use mathlib.Core.Path.{_≡_, sym, ap, _∙_}
 use mathlib.Core.List.{List}
 use Prim.Native.Nat.{ℕ, _+_, _-_, _*_, _≤_}
-use native.Mathlib.Nat.{add-mul, mul-assoc}
+use native.Mathlib.Nat.{add-mul}
 use native.Mathlib.Omega.{arith}
 use borrow.Author.Tests.{ne-eqb}
 use lib.ListN.{length}
@@ -14,7 +14,7 @@ use Rattle.segment.specs.declared.Description.{Description}
 use Rattle.segment.specs.Segment.{Segment, intervalsOf, sizeOf, storedOf, lengthOf}
 use Rattle.segment.specs.Rules.{segmentRules}
 use Rattle.segment.specs.Places.{offsetOf, spanOf, blocksFrom}
-use Rattle.segment.proofs.Laws.{stored-intervals}
+use Rattle.segment.proofs.Places.{span-flat}
 use Rattle.segment.proofs.Rules.{rules-segment}
 use Rattle.command.specs.declared.Command.{Command}
 use Rattle.filling.specs.Fresh.{freshIntervals, fresh, filled}
@@ -24,7 +24,8 @@ use Rattle.fresh.proofs.Runs.{middle, run-length}
 -- ---- n blocks of intervals, by intervals
 module _ (d : Description) (s : Segment d) (fields : d .kind ≡ 0 → ⊥) where
   blocks-flat : (n : ℕ) → n * storedOf d ≡ n * intervalsOf d * (sizeOf d + 8)
-  blocks-flat n = ap (λ (x : ℕ). n * x) (stored-intervals d s fields) ∙ sym (mul-assoc n (intervalsOf d) (sizeOf d + 8))
+  unfolding spanOf
+  blocks-flat n = sym (span-flat d s n fields)
 
   pub fresh-length : length (freshIntervals (sizeOf d) (d .count * intervalsOf d)) ≡ lengthOf d
   unfolding lengthOf

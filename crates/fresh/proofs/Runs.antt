@@ -1,15 +1,18 @@
 -- The laws of fresh intervals end to end: the first of them, those behind, their fields and their data.
 -- Assumes nothing.
 use mathlib.Core.Path.{_≡_, refl, sym, ap, ap₂, _∙_}
-use mathlib.Core.List.{List, _++_, append-assoc}
-use Prim.Native.Nat.{ℕ, zero, suc, _+_, _-_, _*_, _<_}
-use native.Mathlib.Nat.{suc-mul, zero-mul, suc-add, zero-add, add-comm, add-mul, mul-assoc}
+use mathlib.Core.List.{List, [], _++_, append-assoc}
+use Prim.Native.Nat.{ℕ, zero, suc, _+_, _-_, _*_, _<_, zero-le}
+use native.Mathlib.Nat.{suc-mul, zero-mul, mul-zero, add-comm, add-mul, mul-assoc}
 use native.Mathlib.Omega.{arith}
 use lib.ListN.{length, take, drop, replicate, length-append, length-replicate, replicate-append-replicate}
-use lib.Seq.{drop-drop, take-at, drop-at, take-append-add}
+use lib.Seq.{drop-drop, take-at, drop-at}
 use Rattle.words.specs.Runs.{runs}
-use Rattle.field.specs.Field.{fieldOf}
+use Rattle.words.proofs.Turns.{after-same}
+use Rattle.words.proofs.Runs.{runs-two}
+use Rattle.field.specs.Field.{dataOf, fieldOf}
 use Rattle.blocks.specs.Blocks.{userData}
+use Rattle.blocks.proofs.Pieces.{runs-length}
 use Rattle.filling.specs.Fresh.{freshInterval, freshIntervals}
 
 module _ (size : ℕ) where
@@ -28,20 +31,23 @@ module _ (size : ℕ) where
   behind-one : (k : ℕ) → drop (size + 8) (freshIntervals size (suc k)) ≡ freshIntervals size k
   behind-one k = ap (drop (size + 8)) (one-more k) ∙ drop-at (freshInterval size) (freshIntervals size k) (size + 8) interval-length
 
-  -- behind j fresh intervals are the others, and before the others are those j
+  pub run-length : (k : ℕ) → length (freshIntervals size k) ≡ k * (size + 8)
+  unfolding freshIntervals
+  run-length k = runs-length (λ (t : ℕ) (l : List ℕ). freshInterval size) (λ t. t) 0 (size + 8) (λ t l h. interval-length) k 0 [] (rw mul-zero zero-le)
+
+  -- j + k fresh intervals are j and then k; behind the j are the k, and before the k are the j
+  two : (j k : ℕ) → freshIntervals size (j + k) ≡ freshIntervals size j ++ freshIntervals size k
+  unfolding freshIntervals
+  two j k =
+      runs-two (λ (t : ℕ) (l : List ℕ). freshInterval size) (λ t. t) 0 j k 0 []
+      ∙ ap₂ (λ (u : ℕ) (l : List ℕ). freshIntervals size j ++ runs (λ (t : ℕ) (l : List ℕ). freshInterval size) (λ t. t) 0 k u l) (after-same j 0)
+      (ap (λ (n : ℕ). drop n []) (mul-zero j))
+
   behind : (j k : ℕ) → drop (j * (size + 8)) (freshIntervals size (j + k)) ≡ freshIntervals size k
-  behind zero k = rw (zero-mul, zero-add) refl
-  behind (suc j) k =
-      rw (suc-mul, add-comm (j * (size + 8)) (size + 8), suc-add, ← drop-drop (j * (size + 8)) (size + 8) (freshIntervals size (suc (j + k))), behind-one (j + k))
-      (behind j k)
+  behind j k = ap (drop (j * (size + 8))) (two j k) ∙ drop-at (freshIntervals size j) (freshIntervals size k) (j * (size + 8)) (run-length j)
 
   front : (j k : ℕ) → take (j * (size + 8)) (freshIntervals size (j + k)) ≡ freshIntervals size j
-  unfolding freshIntervals runs
-  front zero k = rw zero-mul refl
-  front (suc j) k =
-      rw (suc-mul, add-comm (j * (size + 8)) (size + 8), suc-add, ← interval-length)
-      (take-append-add (freshInterval size) (freshIntervals size (j + k)) (j * length (freshInterval size))
-      ∙ ap (λ (x : List ℕ). freshInterval size ++ x) (rw interval-length (front j k)))
+  front j k = ap (take (j * (size + 8))) (two j k) ∙ take-at (freshIntervals size j) (freshIntervals size k) (j * (size + 8)) (run-length j)
 
   -- l fresh intervals out of a fresh run are fresh
   pub middle : (a l k : ℕ) → take (l * (size + 8)) (drop (a * (size + 8)) (freshIntervals size (a + (l + k)))) ≡ freshIntervals size l
@@ -53,7 +59,8 @@ module _ (size : ℕ) where
       ap (λ (x : List ℕ). take 8 (drop size x)) (parts k)
       ∙ ap (take 8) (drop-at (replicate size 0x00) (replicate 8 0xFF ++ freshIntervals size k) size (length-replicate size 0x00))
 
-  first-data : (k : ℕ) → take size (freshIntervals size (suc k)) ≡ replicate size 0x00
+  first-data : (k : ℕ) → dataOf size (freshIntervals size (suc k)) ≡ replicate size 0x00
+  unfolding dataOf
   first-data k =
       ap (take size) (parts k) ∙ take-at (replicate size 0x00) (replicate 8 0xFF ++ freshIntervals size k) size (length-replicate size 0x00)
 
@@ -67,13 +74,6 @@ module _ (size : ℕ) where
       let apart : l * n ≡ suc j * n + (l - suc j) * n = ap (λ (x : ℕ). x * n) (sym blocks) ∙ add-mul (suc j) (l - suc j) n in
       let all : l * n ≡ j * n + i + suc later = omega (arith, apart, suc-mul j n) in
       rw (drop-drop, ← mul-assoc j n (size + 8), here, all) (ap (fieldOf size) (behind (j * n + i) (suc later)) ∙ first-field later)
-
-  pub run-length : (k : ℕ) → length (freshIntervals size k) ≡ k * (size + 8)
-  unfolding freshIntervals runs
-  run-length zero = rw zero-mul refl
-  run-length (suc k) =
-      length-append (freshInterval size) (freshIntervals size k)
-      ∙ ap₂ (λ (x y : ℕ). x + y) interval-length (run-length k) ∙ add-comm (size + 8) (k * (size + 8)) ∙ sym (suc-mul k (size + 8))
 
   -- the user data of fresh intervals is zero
   pub zeros : (k : ℕ) → userData size k (freshIntervals size k) ≡ replicate (k * size) 0x00

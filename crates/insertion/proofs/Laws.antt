@@ -47,8 +47,8 @@ block-behind size n m s r h = runs-behind (withField size) (later 1) size (inter
 
 -- ---- what was stored reads back, also where the list goes on behind it
 module _ (size : ℕ) (m : Marks) (s r : List ℕ) (h : size ≤ length s) where
-  pub interval-read-on : take size (withField size m s ++ r) ≡ take size s
-  unfolding withField dataOf
+  pub interval-read-on : dataOf size (withField size m s ++ r) ≡ take size s
+  unfolding withField
   interval-read-on = data-laid size (take size s) _ r (length-take-le size s h)
 
   pub interval-field-on : fieldOf size (withField size m s ++ r) ≡ fieldBytes (guard (take size s)) (m .application) (m .reference)
@@ -57,12 +57,12 @@ module _ (size : ℕ) (m : Marks) (s r : List ℕ) (h : size ≤ length s) where
 
 pub block-read-on : (size n : ℕ) (m : Marks) (s r : List ℕ) → n * size ≤ length s → userData size n (storedBlock size n m s ++ r) ≡ take (n * size) s
 unfolding userData storedBlock
-block-read-on size n m s r h = runs-read (withField size) (later 1) size (take size) (size + 8) (interval-read-on size) (interval-length size) n m s r h
+block-read-on size n m s r h = runs-read (withField size) (later 1) size (dataOf size) (size + 8) (interval-read-on size) (interval-length size) n m s r h
 
 pub blocks-read-on : (size n k : ℕ) (m : Marks) (s r : List ℕ) → k * (n * size) ≤ length s → userData size (k * n) (storedBlocks size n k m s ++ r) ≡ take (k * (n * size)) s
 unfolding userData storedBlocks
 blocks-read-on size n k m s r h =
-    runs-lots (λ (u : ℕ) (l : List ℕ). take size l) (size + 8) 0 n k (runs (storedBlock size n) (later n) (n * size) k m s ++ r)
+    runs-lots (λ (u : ℕ) (l : List ℕ). dataOf size l) (size + 8) 0 n k (runs (storedBlock size n) (later n) (n * size) k m s ++ r)
     ∙ runs-read (storedBlock size n) (later n) (n * size) (userData size n) (n * (size + 8)) (block-read-on size n) (block-length size n) k m s r h
 
 pub blocks-read : (size n k : ℕ) (m : Marks) (s : List ℕ) → k * (n * size) ≤ length s → userData size (k * n) (storedBlocks size n k m s) ≡ take (k * (n * size)) s

@@ -83,17 +83,16 @@ pub fn judge_blocks(t: &[u16; 256], r: Rules, p: Place, count: usize, s: &[u8]) 
     let block = n * (r.size + 8);
     let mut left = count;
     let mut tag = p.tag;
-    let mut i: usize = 0;
     while 0 < left {
-        let end = i + block;
         let done = count - left;
+        let i = done * block;
+        let end = i + block;
         let here = place_on(p, done, done * n, tag);
         let a = judge_block(t, r, here, &s[i..end]);
         if !answer::is_good(a) {
             return a;
         }
         tag = next_block(n, here).tag;
-        i = end;
         left -= 1;
     }
     Answer::Good

@@ -21,7 +21,9 @@ use Rattle.interval.specs.declared.Place.{Place}
 use Rattle.judge.specs.Judge.{Run}
 use Rattle.command.specs.Sixteen.{sixteen}
 use Rattle.sides.specs.declared.Side.the-variants.{Stored}
+use Rattle.segment.proofs.Places.{span-all}
 use Rattle.rules.specs.Rules.{rulesOf, startOf}
+use Rattle.rules.proofs.Laws.{side-run}
 use Rattle.writing.specs.Laid.{laid, Written}
 use Rattle.writing.proofs.Writing.{written-then, written-as}
 use Rattle.digits.specs.Digits.{decimal}
@@ -45,15 +47,8 @@ refused-written a e w = written-as (ap (λ (i : ℕ). refusedWord ++ (decimal i 
 -- ---- the lines of a segment
 module _ (d : Description) (s : List ℕ) (g : Segment d) (long : lengthOf d ≡ length s) where
   pub segment-run : (d .kind ≡ 0 → ⊥) → Run (rulesOf Stored d (readAll d)) (d .count) (startOf d (readAll d)) s
-  unfolding rulesOf startOf sixteen lengthOf
-  segment-run n =
-      record {
-        whole = ap (λ (x : ℕ). d .count * x) (sym (stored-intervals d g n)) ∙ long;
-        addresses = g .end;
-        intervals = rw zero-add (omega (arith, mul-le-mul {n₂ = 65536} {m₂ = 8} (g .count) (sizes d g .intervals-most)));
-        few = sizes d g .intervals-most;
-        size = sizes d g .size-most;
-      }
+  unfolding sixteen
+  segment-run n = side-run Stored d (readAll d) (d .count) s g n (g .count) (g .end) (sym long ∙ sym (span-all d))
 
   -- a line for nine bytes at the least
   pub lines-few : (d .kind ≡ 0 → ⊥) → d .count * rulesOf Stored d (readAll d) .intervals * 9 ≤ length s

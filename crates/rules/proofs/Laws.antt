@@ -1,15 +1,23 @@
 -- The rules of judging and the first tag, from the facts that decide them.
 -- Assumes nothing.
-use mathlib.Core.Path.{_≡_}
+use mathlib.Core.Path.{_≡_, sym, _∙_}
 use mathlib.Core.Bool.{Bool, false, _&&_}
-use Prim.Native.Nat.{ℕ, _%_, _^_}
+use mathlib.Core.List.{List}
+use Prim.Native.Nat.{ℕ, _+_, _%_, _^_, _≤_}
+use native.Mathlib.Nat.{zero-add}
+use native.Mathlib.Omega.{arith}
 use borrow.Author.Tests.{eq-eqb, ne-eqb}
+use lib.ListN.{length}
 use Rattle.segment.specs.declared.Description.{Description}
-use Rattle.segment.specs.Segment.{intervalsOf, sizeOf}
+use Rattle.segment.specs.Segment.{Segment, intervalsOf, sizeOf}
+use Rattle.segment.specs.Places.{spanOf}
+use Rattle.segment.proofs.Laws.{sizes}
+use Rattle.segment.proofs.Places.{span-intervals, intervals-few}
 use Rattle.command.specs.declared.Command.{Command}
 use Rattle.interval.specs.declared.Escape.{Escape}
 use Rattle.interval.specs.declared.Rules.{Rules}
 use Rattle.interval.specs.declared.Place.{Place}
+use Rattle.judge.specs.Judge.{Run}
 use Rattle.sides.specs.declared.Side.{Side}
 use Rattle.rules.specs.declared.Columns.{Columns}
 use Rattle.rules.specs.Rules.{columnsIn, columnsOf, applicationKnown, referenceKnown, firstTag, escapeOf, rulesOf, startOf}
@@ -39,3 +47,16 @@ module _ (d : Description) (c : Command) where
   pub start-is : (t : ℕ) → t ≡ firstTag d c → _≡_ {A = Place} (record { address = c .address; interval = 0; tag = t }) (startOf d c)
   unfolding startOf
   start-is t e = rw e
+
+-- so many blocks of a side, from the command's address on, are a run that can be judged
+pub side-run : (side : Side) (d : Description) (c : Command) (count : ℕ) (s : List ℕ) → Segment d → (d .kind ≡ 0 → ⊥) → count ≤ 65536
+    → c .address + count ≤ 2 ^ 63 → length s ≡ spanOf d count → Run (rulesOf side d c) count (startOf d c) s
+unfolding rulesOf startOf
+side-run side d c count s segment fields few end long =
+    record {
+      whole = span-intervals d segment count fields ∙ sym long;
+      addresses = end;
+      intervals = rw zero-add (omega (arith, intervals-few d segment count few));
+      few = sizes d segment .intervals-most;
+      size = sizes d segment .size-most;
+    }

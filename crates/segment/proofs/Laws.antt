@@ -1,12 +1,12 @@
 -- The laws of descriptions: the test and the facts say the same; what follows of a segment's sizes.
 -- Assumes nothing.
-use mathlib.Core.Path.{_≡_, refl, sym, _∙_}
-use mathlib.Core.Bool.{Bool, true, false, not, _&&_, _||_, cond}
+use mathlib.Core.Path.{_≡_, refl, _∙_}
+use mathlib.Core.Bool.{Bool, true, false, _&&_, _||_, cond}
 use Prim.Native.Nat.{ℕ, zero, suc, _+_, _*_, _/_, _%_, _^_, _≤_, _<_}
 use native.Mathlib.Nat.{lt-of-not-le, suc-ne-zero, le-refl, mul-add, mul-le-mul}
 use native.Mathlib.Omega.{arith}
 use borrow.Author.Needs.{needs}
-use borrow.Author.Tests.{le-leb, eq-eqb, ne-eqb, not-false}
+use borrow.Author.Tests.{le-leb, eq-eqb, ne-eqb}
 use lib.Dec.{T, eqb, leb, leb→le, eqb→eq, eqb·suc-zero}
 use Rattle.segment.specs.declared.Description.{Description}
 use Rattle.segment.specs.Segment.{isSegment, Segment, intervalsOf, sizeOf, storedOf, lengthOf}
@@ -134,7 +134,3 @@ module _ (d : Description) (s : Segment d) where
   pub length-most : lengthOf d ≤ 65536 * 4160
   unfolding lengthOf
   length-most = mul-le-mul (s .count) (sizes .stored-most)
-
--- ---- what a caller of `fit` knows
-pub described : (d : Description) (r : Bool) → r ≡ isSegment d → not r ≡ false → Segment d
-described d r e n = segment-facts d (rw (sym e ∙ not-false r n) tt)

@@ -1,6 +1,6 @@
 -- Where blocks and intervals lie in the segment, and how many bytes that can be.
 -- Assumes nothing.
-use mathlib.Core.Path.{_≡_, sym, ap, _∙_}
+use mathlib.Core.Path.{_≡_, refl, sym, ap, _∙_}
 use mathlib.Core.Bool.{true}
 use mathlib.Core.List.{List}
 use Prim.Native.Nat.{ℕ, _+_, _*_, _-_, _≤_, _<_}
@@ -18,7 +18,7 @@ use Rattle.answer.proofs.Ladder.{not-refused}
 use Rattle.segment.specs.declared.Description.{Description}
 use Rattle.segment.specs.Segment.{Segment, intervalsOf, sizeOf, storedOf, lengthOf}
 use Rattle.segment.specs.Places.{rangeRule, offsetOf, spanOf, intervalAt, beginOf}
-use Rattle.segment.proofs.Laws.{sizes}
+use Rattle.segment.proofs.Laws.{sizes, stored-intervals}
 
 module _ (d : Description) (address count : ℕ) where
   -- ---- the address: whole numbers, no wrap
@@ -60,3 +60,20 @@ unfolding beginOf
 interval-begins d s j i =
     drop-drop (i * (sizeOf d + 8)) (j * (intervalsOf d * (sizeOf d + 8))) s
     ∙ ap (λ (n : ℕ). drop n s) (ap (λ (n : ℕ). n + i * (sizeOf d + 8)) (sym (mul-assoc j (intervalsOf d) (sizeOf d + 8))) ∙ sym (add-mul (j * intervalsOf d) i (sizeOf d + 8)))
+
+-- ---- so many blocks: their bytes by intervals, and how many intervals they have
+module _ (d : Description) (s : Segment d) (count : ℕ) where
+  pub span-intervals : (d .kind ≡ 0 → ⊥) → count * (intervalsOf d * (sizeOf d + 8)) ≡ spanOf d count
+  unfolding spanOf
+  span-intervals k = ap (λ (x : ℕ). count * x) (sym (stored-intervals d s k))
+
+  pub span-flat : (d .kind ≡ 0 → ⊥) → count * intervalsOf d * (sizeOf d + 8) ≡ spanOf d count
+  span-flat k = mul-assoc count (intervalsOf d) (sizeOf d + 8) ∙ span-intervals k
+
+  pub intervals-few : count ≤ 65536 → count * intervalsOf d ≤ 524288
+  intervals-few h = mul-le-mul {n₂ = 65536} {m₂ = 8} h (sizes d s .intervals-most)
+
+-- the segment is all of its blocks
+pub span-all : (d : Description) → spanOf d (d .count) ≡ lengthOf d
+unfolding spanOf lengthOf
+span-all d = refl

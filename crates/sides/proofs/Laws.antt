@@ -7,8 +7,22 @@ use borrow.Author.Tests.{eq-eqb, ne-eqb, eqb-false}
 use lib.Dec.{eqb}
 use Rattle.segment.specs.declared.Description.{Description}
 use Rattle.command.specs.declared.Command.{Command}
+use Rattle.command.specs.declared.Operation.{Operation}
+use Rattle.command.specs.declared.Operation.the-variants.{Read, Write, Verify}
 use Rattle.sides.specs.declared.Side.{Side}
+use Rattle.sides.specs.declared.Side.the-variants.{Sent, Stored}
 use Rattle.sides.specs.Sides.{checksOn, checkedOn}
+
+-- a READ or VERIFY checks what is stored, and nothing that is sent
+pub stored-all : (o : Operation) (c : Command) → (o ≡ Write → ⊥) → checksOn Stored o c ≡ true
+stored-all Read c n = refl
+stored-all Write c n = absurd (n refl)
+stored-all Verify c n = refl
+
+pub sent-none : (o : Operation) (c : Command) → (o ≡ Write → ⊥) → checksOn Sent o c ≡ false
+sent-none Read c n = refl
+sent-none Write c n = absurd (n refl)
+sent-none Verify c n = refl
 
 -- a side that is checked is checked over all of the transfer's blocks
 module _ (side : Side) (d : Description) (c : Command) where

@@ -4,8 +4,7 @@ use mathlib.Core.Path.{_≡_, refl, sym, ap, _∙_}
 use mathlib.Core.Bool.{Bool, true, false, not, _||_, cond}
 use mathlib.Core.List.{List}
 use Prim.Native.Nat.{ℕ, _+_, _*_, _≤_}
-use native.Mathlib.Nat.{mul-assoc, mul-le-mul}
-use native.Mathlib.Omega.{arith}
+use native.Mathlib.Nat.{mul-assoc}
 use borrow.Author.Tests.{eq-eqb, ne-eqb, eqb-true, eqb-false}
 use lib.Dec.{eqb, lit≤}
 use lib.ListN.{length}
@@ -15,7 +14,8 @@ use Rattle.answer.specs.declared.Answer.the-variants as answers
 use Rattle.segment.specs.declared.Description.{Description}
 use Rattle.segment.specs.Segment.{Segment, intervalsOf, sizeOf, storedOf}
 use Rattle.segment.specs.Places.{spanOf}
-use Rattle.segment.proofs.Laws.{sizes, stored-intervals, stored-plain}
+use Rattle.segment.proofs.Laws.{sizes, stored-plain}
+use Rattle.segment.proofs.Places.{span-intervals, span-flat}
 use Rattle.command.specs.declared.Command.{Command}
 use Rattle.judge.specs.FirstOf.{firstOf}
 use Rattle.judge.specs.Judge.{Run, judgeBlocks}
@@ -23,6 +23,7 @@ use Rattle.sides.specs.declared.Side.{Side}
 use Rattle.sides.specs.Sides.{checksOn, checkedOn}
 use Rattle.sides.proofs.Laws.{checks-all, checked-all}
 use Rattle.rules.specs.Rules.{rulesOf, startOf}
+use Rattle.rules.proofs.Laws.{side-run}
 use Rattle.marks.specs.Inserted.{marksOf}
 use Rattle.insertion.specs.declared.Marks.{Marks}
 use Rattle.blocks.specs.Blocks.{userData}
@@ -48,13 +49,6 @@ pub record Parted (d : Description) (c : Command) : Type 0 where
 
 -- ---- a transfer's blocks and its buffer
 module _ (d : Description) (c : Command) (s : Segment d) where
-  pub span-intervals : (d .kind ≡ 0 → ⊥) → c .length * (intervalsOf d * (sizeOf d + 8)) ≡ spanOf d (c .length)
-  unfolding spanOf
-  span-intervals k = ap (λ (x : ℕ). c .length * x) (sym (stored-intervals d s k))
-
-  pub span-flat : (d .kind ≡ 0 → ⊥) → c .length * intervalsOf d * (sizeOf d + 8) ≡ spanOf d (c .length)
-  span-flat k = mul-assoc (c .length) (intervalsOf d) (sizeOf d + 8) ∙ span-intervals k
-
   pub moved-intervals : c .code ≡ 0 → c .length * (intervalsOf d * sizeOf d) ≡ movedOf d c
   moved-intervals z = ap (λ (x : ℕ). c .length * x) (sizes d s .whole) ∙ sym (moved-plain d c z)
 
@@ -69,9 +63,6 @@ module _ (d : Description) (c : Command) (s : Segment d) where
   unfolding spanOf
   moved-plain-span k z = moved-plain d c z ∙ ap (λ (x : ℕ). c .length * x) (sym (stored-plain d k))
 
-  pub intervals-few : c .length ≤ 65536 → c .length * intervalsOf d ≤ 524288
-  intervals-few h = mul-le-mul {n₂ = 65536} {m₂ = 8} h (sizes d s .intervals-most)
-
 -- ---- judging
 module _ (side : Side) (d : Description) (c : Command) (s : List ℕ) where
   pub judged-none : checkedOn side d c ≡ 0 → judgedOn side d c s ≡ answers.Good
@@ -83,17 +74,9 @@ module _ (side : Side) (d : Description) (c : Command) (s : List ℕ) where
   judged-all k e = rw (checked-all side d c k e)
 
   pub run : Shaped d c → Sided side d c (length s) → (checkedOn side d c ≡ 0 → ⊥) → Run (rulesOf side d c) (checkedOn side d c) (startOf d c) s
-  unfolding rulesOf startOf
   run h long n =
       let k = checks-all side d c n in
-      rw (k .all)
-      (record {
-        whole = span-intervals d c (h .described) (k .fields) ∙ sym (long n);
-        addresses = h .end;
-        intervals = omega (arith, intervals-few d c (h .described) (h .few));
-        few = sizes d (h .described) .intervals-most;
-        size = sizes d (h .described) .size-most;
-      })
+      rw (k .all) (side-run side d c (c .length) s (h .described) (k .fields) (h .few) (h .end) (long n))
 
 -- ---- what the test of `whole` tells
 module _ (d : Description) (c : Command) where
@@ -143,13 +126,13 @@ module _ (d : Description) (c : Command) where
 module _ (d : Description) (c : Command) (size n : ℕ) (z : size ≡ sizeOf d) (i : n ≡ intervalsOf d) where
   pub user-data-fits : (s b : ℕ) → Shaped d c → s ≡ spanOf d (c .length) → Fitted d c b → Parted d c → (c .length * n * (size + 8) ≡ s) × (c .length * n * size ≡ b)
   user-data-fits s b h l f p =
-      (rw (z, i) (span-flat d c (h .described) (p .fields) ∙ sym l), rw (z, i) (moved-flat d c (h .described) (p .zero) ∙ sym (f .room)))
+      (rw (z, i) (span-flat d (h .described) (c .length) (p .fields) ∙ sym l), rw (z, i) (moved-flat d c (h .described) (p .zero) ∙ sym (f .room)))
 
   pub insert-fits : (at s b : ℕ) → Shaped d c → at + spanOf d (c .length) ≤ s → Fitted d c b → Parted d c
       → (c .length * (n * size) ≡ b) × (at + c .length * (n * (size + 8)) ≤ s) × ((size ≤ 4096) × (n ≤ 8))
   insert-fits at s b h l f p = (
     rw (z, i) (moved-intervals d c (h .described) (p .zero) ∙ sym (f .room)),
-    rw (z, i, span-intervals d c (h .described) (p .fields)) l,
+    rw (z, i, span-intervals d (h .described) (c .length) (p .fields)) l,
     (rw z (sizes d (h .described) .size-most), rw i (sizes d (h .described) .intervals-most)),
   )
 

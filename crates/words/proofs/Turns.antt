@@ -15,6 +15,12 @@ unfoldable pub after : {A : Type 0} → (A → A) → ℕ → A → A
 after next zero t = t
 after next (suc j) t = after next j (next t)
 
+-- a value that stays as it is
+pub after-same : {A : Type 0} (k : ℕ) (t : A) → after (λ u. u) k t ≡ t
+unfolding after
+after-same zero t = refl
+after-same (suc k) t = after-same k t
+
 -- ---- a question F that is asked piece by piece: of one piece more it is `op` of that piece's part and F of the pieces behind it
 module _ {A C : Type 0} (piece : A → List ℕ → C) (next : A → A) (P : ℕ) where
   -- what piece j gives

@@ -3,7 +3,6 @@
 use mathlib.Core.Path.{_≡_, _∙_}
 use mathlib.Core.List.{List}
 use Prim.Native.Nat.{ℕ, _+_, _*_, _≤_}
-use native.Mathlib.Nat.{mul-assoc, mul-le-mul}
 use native.Mathlib.Omega.{arith}
 use borrow.Author.Tests.{eq-eqb, ne-eqb}
 use lib.ListN.{length, replicate}
@@ -12,7 +11,7 @@ use Rattle.answer.specs.Outcome.{outcome}
 use Rattle.answer.proofs.Outcome.{hands-on, leaves-new}
 use Rattle.segment.specs.declared.Description.{Description}
 use Rattle.segment.specs.Segment.{Segment, intervalsOf, sizeOf, lengthOf}
-use Rattle.segment.proofs.Laws.{sizes, stored-intervals}
+use Rattle.segment.proofs.Places.{span-flat, span-all, intervals-few}
 use Rattle.segment.proofs.Rules.{fitting}
 use Rattle.filling.specs.Fresh.{filled, fresh, freshIntervals}
 use borrow.Author.Needs.{needs}
@@ -28,11 +27,10 @@ unfolding fresh
 fields d new size n k e f m = m ∙ rw (ne-eqb (d .kind) 0 k, e, f)
 
 whole : (d : Description) (long size n : ℕ) → Segment d → (d .kind ≡ 0 → ⊥) → size ≡ sizeOf d → n ≡ intervalsOf d → long ≡ lengthOf d → d .count * n * (size + 8) ≡ long
-unfolding lengthOf
-whole d long size n f k e g l = rw (e, g, l, stored-intervals d f k) (mul-assoc (d .count) (intervalsOf d) (sizeOf d + 8))
+whole d long size n f k e g l = rw (e, g, l) (span-flat d f (d .count) k ∙ span-all d)
 
 few : (d : Description) (n : ℕ) → Segment d → n ≡ intervalsOf d → d .count * n ≤ 524288
-few d n f e = rw e (mul-le-mul {n₂ = 65536} {m₂ = 8} (f .count) (sizes d f .intervals-most))
+few d n f e = rw e (intervals-few d f (d .count) (f .count))
 
 abbrev start : tie.Else1 → tie.Start
 start p = p .before .before .before .before
