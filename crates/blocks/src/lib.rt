@@ -11,14 +11,15 @@ pub fn take_user_data(d: &mut [u8], s: &[u8], size: usize, count: usize)
     requires { ⌜ count * size ≡ length (now d) ⌝ }
     ensures { λ _. ⌜ now (d .exit) ≡ userData size count (now (s .entry)) ⌝ }
 {
-    let mut done: usize = 0;
-    while done < count {
+    let mut left = count;
+    while 0 < left {
+        let done = count - left;
         let i = done * (size + 8);
         let m = i + size;
         let a = done * size;
         let e = a + size;
         words::copy(&mut d[a..e], &s[i..m]);
-        done += 1;
+        left -= 1;
     }
 }
 
