@@ -6,9 +6,11 @@ use mathlib.Core.List.{List, [], _∷_}
 use Prim.Native.Nat.{ℕ, zero, suc, _<_}
 use native.Mathlib.Omega.{arith}
 use lib.ListN.{length, getD}
+use denote.Ref.{now}
 use Rattle.guard.proofs.guard_by_division.Reads as guard-by-division-reads
 use Rattle.guard.proofs.table.Reads as table-reads
 use Rattle.guard.proofs.guard_through.Reads as guard-through-reads
+use Rattle.guard.proofs.copy_with_guard.Reads as copy-with-guard-reads
 use Rattle.guard.proofs.guard_by_table.Reads as guard-by-table-reads
 
 pub guard-by-division : (κs : _) (a : _) (x y : _) (s t : _) → guard-by-division-reads.Post κs a x s → guard-by-division-reads.Post κs a y t → x ≡ y
@@ -30,6 +32,9 @@ table κs a x y s t l l′ p q = entries-same 256 x y l l′ (λ v h. p .entry v
 
 pub guard-through : (κs : _) (a : _) (x y : _) (s t : _) → guard-through-reads.Post κs a x s → guard-through-reads.Post κs a y t → x ≡ y
 guard-through κs a x y s t p q = p ∙ sym q
+
+pub copy-with-guard : (κs : _) (a : _) (x y : _) (s t : _) → copy-with-guard-reads.Post κs a x s → copy-with-guard-reads.Post κs a y t → (x ≡ y) × (now (s .1 .0) ≡ now (t .1 .0))
+copy-with-guard κs a x y s t p q = (p .0 ∙ sym (q .0), p .1 ∙ sym (q .1))
 
 pub guard-by-table : (κs : _) (a : _) (x y : _) (s t : _) → guard-by-table-reads.Post κs a x s → guard-by-table-reads.Post κs a y t → x ≡ y
 guard-by-table κs a x y s t p q = p ∙ sym q

@@ -1,6 +1,7 @@
 // The guard of an interval's data, by long division and through a table of 256 numbers.
 ghost use mathlib.Core.Path.{_≡_};
 ghost use Prim.Native.Nat.{_+_, _*_, _<_};
+ghost use lib.ListN.{length};
 ghost use Rattle.guard.specs.Guard.{guard, divide, takeOff, terms};
 ghost use Rattle.guard.specs.Table.{Right, tableStep};
 
@@ -327,6 +328,23 @@ pub fn guard_through(t: &[u16; 256], data: &[u8]) -> u16
     let mut i: usize = 0;
     while i < data.len() {
         r = table_step(t, r, data[i]);
+        i += 1;
+    }
+    r
+}
+
+// Makes `d` a copy of `data`, which is as long, and hands back its guard, in one pass.
+pub fn copy_with_guard(t: &[u16; 256], d: &mut [u8], data: &[u8]) -> u16
+    requires { ⌜ Right (now t) ⌝ }
+    requires { ⌜ length (now «data») ≡ length (now d) ⌝ }
+    ensures { λ r. ⌜ (r ≡ guard (now («data» .entry))) × (now (d .exit) ≡ now («data» .entry)) ⌝ }
+{
+    let mut r: u16 = 0;
+    let mut i: usize = 0;
+    while i < data.len() {
+        let b = data[i];
+        d[i] = b;
+        r = table_step(t, r, b);
         i += 1;
     }
     r

@@ -21,8 +21,7 @@ fn insert_interval(t: &[u16; 256], d: &mut [u8], s: &[u8], m: Marks)
     ensures { λ _. ⌜ now (d .exit) ≡ withField (length (now (s .entry))) m (now (s .entry)) ⌝ }
 {
     let n = s.len();
-    words::copy(&mut d[..n], s);
-    let g = guard::guard_through(t, s);
+    let g = guard::copy_with_guard(t, &mut d[..n], s);
     field::write(&mut d[n..], g, m.application, m.reference);
 }
 

@@ -7,7 +7,7 @@ use native.Mathlib.Nat.{add-comm, add-sub-cancel-left, suc-mul, suc-add, zero-ad
 use native.Mathlib.Numerals.{add-one}
 use native.Mathlib.Omega.{arith}
 use lib.Dec.{lit<}
-use lib.ListN.{length, getD, take, drop, set, length-append, length-take, length-drop}
+use lib.ListN.{length, getD, take, drop, set, length-append, length-take, length-drop, drop-of-length-le}
 use lib.Seq.{drop-cons, drop-drop, take-suc-set, take-all, take-nil, getD-drop}
 use borrow.Rule.Slice.PartMut.{putMid, post-is}
 use Rattle.words.specs.Parts.{put, Bytes}
@@ -21,6 +21,13 @@ store-next d rest whole i v h e = rw (add-one, take-suc-set d i v) (append-assoc
 
 pub store-end : (d whole : List ℕ) (i : ℕ) → length d ≤ i → take i d ++ [] ≡ whole → d ≡ whole
 store-end d whole i h e = sym (take-all i d h) ∙ sym (append-nil (take i d)) ∙ e
+
+-- a list copied from the front: what is copied and what is left make up the source
+pub copied-next : (d s : List ℕ) (i : ℕ) → i < length d → i < length s → take i d ++ drop i s ≡ s → take (i + 1) (set d i (getD s i 0)) ++ drop (i + 1) s ≡ s
+copied-next d s i h k e = store-next d _ s i _ h (rw (drop-next s i 0 k) at e)
+
+pub copied : (d s : List ℕ) (i : ℕ) → length s ≡ length d → length s ≤ i → take i d ++ drop i s ≡ s → d ≡ s
+copied d s i e h t = store-end d s i (omega arith) (rw (drop-of-length-le s h) at t)
 
 -- the part of n elements from i on, as code cuts it
 pub part-at : (i n : ℕ) (s : List ℕ) → take (i + n - i) (drop i s) ≡ take n (drop i s)

@@ -31,22 +31,21 @@ interval-made m g s d d₁ d₂ room e₁ eg e₂ =
     let nothing = drop-of-length-le old {i = n + length f} (omega arith) in
     rw (e₁, e₂, eg) (put-back n (length old) old f (omega arith) (omega arith) ∙ rw (take-append-seam, nothing, append-nil, take-length))
 
-slice-aggregate-copy : tie.Need-slice-aggregate-copy
-slice-aggregate-copy c = sym (length-take-le _ _ (search needs))
+slice-aggregate-copy-with-guard : tie.Need-slice-aggregate-copy-with-guard
+slice-aggregate-copy-with-guard c = sym (length-take-le _ _ (search needs))
 
-copy-requires : tie.Need-copy-requires
-copy-requires c κs = sym (length-take-le _ _ (search needs))
+copy-with-guard-requires : tie.Need-copy-with-guard-requires
+copy-with-guard-requires c κs = (search needs, sym (length-take-le _ _ (search needs)))
 
 returns : tie.Need-returns
 returns c =
     let wrote = c .before .before in
-    let guarded = wrote .before .before in
-    let copied = guarded .before .before .before in
+    let copied = wrote .before .before .before .before in
     let start = copied .before .before .before .before in
-    interval-made _ _ (start .args .s .now) (start .args .d .now) (copied .copy .last .0) _
+    interval-made _ _ (start .args .s .now) (start .args .d .now) (copied .copy-with-guard .last .1 .0) _
     (start .pre .1)
-    (copied .copy .ensures)
-    (guarded .guard-through .ensures)
+    (copied .copy-with-guard .ensures .1)
+    (copied .copy-with-guard .ensures .0)
     (wrote .write .ensures)
 
 pub insert-interval-spec : {M : Type 1} → statement M
@@ -54,8 +53,8 @@ insert-interval-spec =
     tie.close
     (tie.spec
     (λ c. search needs)
-    slice-aggregate-copy
-    copy-requires
-    (λ c κs. search needs) (λ c. search needs) (λ c. search needs) (λ c. search needs)
+    slice-aggregate-copy-with-guard
+    copy-with-guard-requires
+    (λ c. search needs) (λ c. search needs) (λ c. search needs)
     (λ c κs. search needs) (λ c. search needs)
     returns)

@@ -1,17 +1,14 @@
 -- `words::copy`: what is copied and what is left make up the source.
 -- Assumes nothing.
 use mathlib.Core.Path.{_≡_}
-use mathlib.Core.List.{List, _++_}
-use Prim.Native.Nat.{ℕ, _≤_, _<_, _-_}
+use mathlib.Core.List.{_++_}
+use Prim.Native.Nat.{_≤_, _-_}
 use native.Mathlib.Omega.{arith}
-use lib.ListN.{length, take, drop, length-set, drop-of-length-le}
-use Rattle.words.proofs.Parts.{store-next, store-end, drop-next}
+use lib.ListN.{length, take, drop, length-set}
+use Rattle.words.proofs.Parts.{copied-next, copied}
 use borrow.Author.Needs.{needs}
 use Rattle.words.proofs.copy.Statement.{statement}
 use Rattle.words.proofs.copy.Tie as tie
-
-copied : (d s : List ℕ) (i : ℕ) → length s ≡ length d → length s ≤ i → take i d ++ drop i s ≡ s → d ≡ s
-copied d s i e h t = store-end d s i (omega arith) (rw (drop-of-length-le s h) at t)
 
 abbrev Inv-loop : tie.InvT-loop
 Inv-loop d₀ s i₀ d i = (length d ≡ length d₀) × (i ≤ length s) × (take i d ++ drop i s ≡ s)
@@ -22,9 +19,7 @@ abbrev μ-loop : tie.MeasureT-loop
 loop-again : tie.Need-loop-again Inv-loop μ-loop
 loop-again c =
     let l = c .before .before .loop in
-    let s = c .before .before .before .args .s .now in
-    let h : l .i < length (l .d) = omega arith in
-    (simp length-set (l .inv .0), omega arith, store-next (l .d) _ s (l .i) _ h (rw (drop-next s (l .i) 0 (omega arith)) at (l .inv .2)))
+    (simp length-set (l .inv .0), omega arith, copied-next (l .d) _ (l .i) (omega arith) (omega arith) (l .inv .2))
 
 returns : tie.Need-returns Inv-loop μ-loop
 returns c = copied _ _ (c .before .loop .i) (omega arith) (c .loop-test .left) (c .before .loop .inv .2)

@@ -1,0 +1,54 @@
+-- `guard::copy_with_guard`: what is copied and what is left make up the source; and the bytes that are left, from the remainder so far, give what all of them give.
+-- Assumes nothing.
+use mathlib.Core.Path.{_≡_, refl, sym, _∙_}
+use mathlib.Core.List.{_++_}
+use Prim.Native.Nat.{_≤_, _<_, _-_, zero-le}
+use native.Mathlib.Omega.{arith}
+use lib.Dec.{lit<}
+use lib.ListN.{length, getD, take, drop, length-set}
+use Rattle.words.proofs.Parts.{copied-next, copied}
+use Rattle.guard.specs.Guard.{guard}
+use Rattle.guard.specs.Remainder.{guardFrom, stepByte}
+use Rattle.guard.proofs.ByTable.{table-step}
+use Rattle.guard.proofs.Division.{guard-from-zero}
+use Rattle.guard.proofs.Remainder.{stepByte-lt, guard-next, guard-end}
+use borrow.Author.Needs.{needs}
+use Rattle.guard.proofs.copy_with_guard.Statement.{statement}
+use Rattle.guard.proofs.copy_with_guard.Tie as tie
+
+abbrev Inv-loop : tie.InvT-loop
+Inv-loop t d₀ «data» r₀ i₀ d r i =
+    (length d ≡ length d₀) × (i ≤ length «data») × (take i d ++ drop i «data» ≡ «data») × (r < 65536) × (guardFrom r (drop i «data») ≡ guard «data»)
+
+abbrev μ-loop : tie.MeasureT-loop
+μ-loop t d₀ «data» r₀ i₀ d r i = length «data» - i
+
+loop-holds : tie.Need-loop-holds Inv-loop μ-loop
+loop-holds c = (refl, zero-le, refl, lit< tt, sym (guard-from-zero _))
+
+loop-again : tie.Need-loop-again Inv-loop μ-loop
+loop-again c =
+    let l = c .before .before .before .loop in
+    let start = c .before .before .before .before .before .before in
+    let s = start .args .«data» .now in
+    let here : l .i < length s = omega arith in
+    let r : c .table-step .result ≡ stepByte (l .r) (getD s (l .i) 0) =
+    c .table-step .ensures ∙ table-step _ _ _ (start .pre .0) (l .inv .3) (c .before .shared-slice-known2 .given (l .i) .fits) in
+    (simp length-set (l .inv .0), omega arith, copied-next (l .d) s (l .i) (omega arith) here (l .inv .2), rw r (stepByte-lt (l .r) _), rw r (guard-next s (l .r) (l .i) _ here (l .inv .4)))
+
+returns : tie.Need-returns Inv-loop μ-loop
+returns c =
+    let l = c .before .loop in
+    (guard-end _ _ (l .i) _ (c .loop-test .left) (l .inv .4), copied (l .d) _ (l .i) (omega arith) (c .loop-test .left) (l .inv .2))
+
+pub copy-with-guard-spec : {M : Type 1} → statement M
+copy-with-guard-spec =
+    tie.close
+    (tie.spec
+    Inv-loop
+    μ-loop
+    loop-holds
+    (λ c. search needs) (λ c. search needs) (λ c κs. search needs) (λ c. search needs) (λ c. search needs)
+    loop-again
+    (λ c. search needs)
+    returns)
