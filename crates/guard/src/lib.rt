@@ -333,12 +333,17 @@ pub fn guard_through(t: &[u16; 256], data: &[u8]) -> u16
     r
 }
 
-// Makes `d` a copy of `data`, which is as long, and hands back its guard, in one pass.
+// Makes `d` a copy of `data`, which is as long, and hands back its guard. Few bytes go through one loop: the ways into two
+// and out of them would be most of the work.
 pub fn copy_with_guard(t: &[u16; 256], d: &mut [u8], data: &[u8]) -> u16
     requires { ⌜ Right (now t) ⌝ }
     requires { ⌜ length (now «data») ≡ length (now d) ⌝ }
     ensures { λ r. ⌜ (r ≡ guard (now («data» .entry))) × (now (d .exit) ≡ now («data» .entry)) ⌝ }
 {
+    if 16 <= data.len() {
+        words::copy(d, data);
+        return guard_through(t, data);
+    }
     let mut r: u16 = 0;
     let mut i: usize = 0;
     while i < data.len() {

@@ -1,4 +1,4 @@
--- `guard::copy_with_guard`: what is copied and what is left make up the source; and the bytes that are left, from the remainder so far, give what all of them give.
+-- `guard::copy_with_guard`: many bytes by the two functions that it calls; of few, what is copied and what is left make up the source, and the bytes that are left, from the remainder so far, give what all of them give.
 -- Assumes nothing.
 use mathlib.Core.Path.{_≡_, refl, sym, _∙_}
 use mathlib.Core.List.{_++_}
@@ -23,21 +23,24 @@ Inv-loop t d₀ «data» r₀ i₀ d r i =
 abbrev μ-loop : tie.MeasureT-loop
 μ-loop t d₀ «data» r₀ i₀ d r i = length «data» - i
 
+returns : tie.Need-returns Inv-loop μ-loop
+returns c = (c .guard-through .ensures, c .before .before .before .copy .ensures)
+
 loop-holds : tie.Need-loop-holds Inv-loop μ-loop
 loop-holds c = (refl, zero-le, refl, lit< tt, sym (guard-from-zero _))
 
 loop-again : tie.Need-loop-again Inv-loop μ-loop
 loop-again c =
     let l = c .before .before .before .loop in
-    let start = c .before .before .before .before .before .before in
+    let start = c .before .before .before .before .before .before .before in
     let s = start .args .«data» .now in
     let here : l .i < length s = omega arith in
     let r : c .table-step .result ≡ stepByte (l .r) (getD s (l .i) 0) =
     c .table-step .ensures ∙ table-step _ _ _ (start .pre .0) (l .inv .3) (c .before .shared-slice-known2 .given (l .i) .fits) in
     (simp length-set (l .inv .0), omega arith, copied-next (l .d) s (l .i) (omega arith) here (l .inv .2), rw r (stepByte-lt (l .r) _), rw r (guard-next s (l .r) (l .i) _ here (l .inv .4)))
 
-returns : tie.Need-returns Inv-loop μ-loop
-returns c =
+returns-2 : tie.Need-returns-2 Inv-loop μ-loop
+returns-2 c =
     let l = c .before .loop in
     (guard-end _ _ (l .i) _ (c .loop-test .left) (l .inv .4), copied (l .d) _ (l .i) (omega arith) (c .loop-test .left) (l .inv .2))
 
@@ -47,8 +50,10 @@ copy-with-guard-spec =
     (tie.spec
     Inv-loop
     μ-loop
+    (λ c κs. search needs) (λ c κs. search needs) (λ c. search needs)
+    returns
     loop-holds
     (λ c. search needs) (λ c. search needs) (λ c κs. search needs) (λ c. search needs) (λ c. search needs)
     loop-again
     (λ c. search needs)
-    returns)
+    returns-2)
