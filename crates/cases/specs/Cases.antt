@@ -7,6 +7,7 @@ use Rattle.guard.specs.Guard.{guard}
 use Rattle.answer.specs.Answer.{numberOf, addressOf, placeOf}
 use Rattle.answer.specs.Outcome.{Outcome}
 use Rattle.segment.specs.declared.Description.{Description}
+use Rattle.segment.specs.Segment.{described}
 use Rattle.execute.specs.Lent.{Lent, lent}
 use Rattle.execute.specs.Execute.{executed}
 use Rattle.stripe.specs.Stripe as stripe
@@ -83,7 +84,7 @@ vectors =
 
 -- "call this segment M; ATO is 0": its description and its blocks
 abbrev describedM : Description
-describedM = record { kind = 1; block = 8; exponent = 0; first = 7; count = 3; ato = 0 }
+describedM = described 1 8 0 7 3 0
 
 abbrev first : List ℕ
 first = bytes 16 0x0000000000000001_8BB7_0000_00000007
@@ -117,7 +118,7 @@ onSegments =
     -- "Type 2, B 8, e 1, ATO 0, WRITE (32) code 000, first tag FFFFFFFFh, data zero: references FFFFFFFFh, then 00000000h."
     ∷ execute
     (record {
-      description = record { kind = 2; block = 8; exponent = 1; first = 0; count = 1; ato = 0 };
+      description = described 2 8 1 0 1 0;
       segment = replicate 24 0xFF;
       command = bytes 32 0x7F_00_00000000_00_18_000B_00_00_0000000000000000_FFFFFFFF_0000_0000_00000001;
       buffer = replicate 8 0;
@@ -129,7 +130,7 @@ onSegments =
 unfoldable pub parityCase : ParityCase
 parityCase =
     record {
-      description = record { kind = 1; block = 8; exponent = 0; first = 7; count = 1; ato = 0 };
+      description = described 1 8 0 7 1 0;
       count = 2;
       members = first ++ bytes 16 0x0000000000000002_9CD9_0000_00000007;
       parity = bytes 16 0x0000000000000003_176E_0000_00000000;

@@ -1,4 +1,4 @@
-// The guard of an interval's data, by long division and through a table of 256 numbers.
+// The guard of an interval's data, by long division and through a table of 256 numbers; and copying the data with it.
 ghost use mathlib.Core.Path.{_≡_};
 ghost use Prim.Native.Nat.{_+_, _*_, _<_};
 ghost use lib.ListN.{length};

@@ -15,7 +15,7 @@ use Rattle.answer.specs.declared.Answer.the-variants as answers
 use Rattle.answer.specs.declared.Reason.the-variants as reasons
 use Rattle.answer.proofs.Ladder.{both-good, not-refused}
 use Rattle.segment.specs.declared.Description.{Description}
-use Rattle.segment.specs.Segment.{Segment, lengthOf}
+use Rattle.segment.specs.Segment.{described, Segment, lengthOf}
 use Rattle.segment.specs.Rules.{segmentRules}
 use Rattle.segment.proofs.Rules.{rules-segment}
 use Rattle.records.specs.Record.{frameBad, Framed, describedBy, segmentIn, recordAnswer}
@@ -87,6 +87,6 @@ record-whole input e =
 
 -- ---- the description, field by field
 pub described-made : (input : List ℕ) {b w n : ℕ} → b ≡ numberAt 7 2 input → w ≡ numberAt 9 8 input → n ≡ numberAt 17 2 input
-    → _≡_ {A = Description} (record { kind = getD input 5 0; block = b; exponent = getD input 6 0; first = w; count = n; ato = 0 }) (describedBy input)
+    → described (getD input 5 0) b (getD input 6 0) w n 0 ≡ describedBy input
 unfolding describedBy
 described-made input eb ew en = rw (eb, ew, en)

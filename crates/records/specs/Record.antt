@@ -11,6 +11,7 @@ use Rattle.answer.specs.Answer.{orElse, refusedIf}
 use Rattle.answer.specs.declared.Answer.{Answer}
 use Rattle.answer.specs.declared.Reason.the-variants as reasons
 use Rattle.segment.specs.declared.Description.{Description}
+use Rattle.segment.specs.Segment.{described}
 use Rattle.segment.specs.Rules.{segmentRules}
 
 -- "Answer 13 for fewer than 4 bytes, L over its limit or below 15, not exactly L bytes following, or another version"
@@ -22,15 +23,7 @@ frameBad input =
 
 -- the description that the record gives; it has no ATO, which is 0
 unfoldable pub describedBy : List ℕ → Description
-describedBy input =
-    record {
-      kind = getD input 5 0;
-      block = numberAt 7 2 input;
-      exponent = getD input 6 0;
-      first = numberAt 9 8 input;
-      count = numberAt 17 2 input;
-      ato = 0;
-    }
+describedBy input = described (getD input 5 0) (numberAt 7 2 input) (getD input 6 0) (numberAt 9 8 input) (numberAt 17 2 input) 0
 
 unfoldable pub segmentIn : List ℕ → List ℕ
 segmentIn input = drop 19 input

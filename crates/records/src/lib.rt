@@ -33,14 +33,10 @@ pub fn described_by(input: &[u8]) -> Description
     requires { ⌜ Framed (now input) ⌝ }
     ensures { λ d. ⌜ d ≡ describedBy (now (input .entry)) ⌝ }
 {
-    Description {
-        kind: input[5] as u64,
-        block: words::read2(input, 7) as u64,
-        exponent: input[6] as u64,
-        first: words::read_at(input, 9, 8),
-        count: words::read2(input, 17) as u64,
-        ato: 0,
-    }
+    let block = words::read2(input, 7) as u64;
+    let first = words::read_at(input, 9, 8);
+    let count = words::read2(input, 17) as u64;
+    segment::described(input[5] as u64, block, input[6] as u64, first, count, 0)
 }
 
 // The refusal of a record, or Good.
