@@ -7,8 +7,7 @@ use mathlib.Core.List.{List, _++_}
 use Prim.Native.Nat.{ℕ, zero, suc, _+_, _*_, _≤_}
 use native.Mathlib.Omega.{arith}
 use lib.ListN.{length, drop, length-append, length-drop}
-use Rattle.answer.specs.Answer.{numberOf, isGood}
-use Rattle.answer.specs.declared.Answer.{Answer}
+use Rattle.answer.specs.Answer.{isGood}
 use Rattle.answer.specs.declared.Answer.the-variants as answers
 use Rattle.answer.specs.declared.Field.the-variants as fields
 use Rattle.segment.specs.declared.Description.{Description}
@@ -24,13 +23,15 @@ use Rattle.command.specs.Sixteen.{sixteen}
 use Rattle.sides.specs.declared.Side.the-variants.{Stored}
 use Rattle.rules.specs.Rules.{columnsOf, applicationKnown, rulesOf, startOf}
 use Rattle.writing.proofs.Writing.{laid-length}
-use Rattle.digits.proofs.Digits.{decimal-most}
 use Rattle.lines.specs.Lines.{worded, stateOf, lineOf}
-use Rattle.sheet.specs.Sheet.{intervalLines, linesIn, blockLines, faulty, skips, countOf, linesText}
+use Rattle.sheet.specs.Sheet.{faulty, skips, countOf, linesText}
+use Rattle.body.specs.Body.{intervalLines, linesIn, blockLines}
+use Rattle.closing.specs.Closing.{numbersText, refusedText}
 use Rattle.records.specs.Record.{recordAnswer, describedBy, segmentIn}
-use Rattle.listing.specs.Listing.{readAll, linesOf, headerText, intervalsText, faultsText, skippedText, numbersText, totalText, listedText, refusedText, listing, Listed}
+use Rattle.listing.specs.Listing.{readAll, linesOf, headerText, totalText, listedText, listing, Listed}
 use Rattle.sheet.proofs.SheetLaws.{count-append, lines-most}
-use Rattle.sheet.proofs.BlockLaws.{blocks-length}
+use Rattle.body.proofs.BlockLaws.{blocks-length}
+use Rattle.closing.proofs.ClosingLaws.{numbers-most, refused-most}
 use Rattle.records.proofs.RecordLaws.{record-whole}
 use Rattle.listing.proofs.ListingLaws.{lines-none, lines-are, lines-length}
 
@@ -115,14 +116,6 @@ faults-are-judged d s g long n =
     rw (lines-are d s g long n) (faults-blocks (rulesOf Stored d (readAll d)) (read-plain d) (d .count) (startOf d (readAll d)) s)
 
 -- ---- a listing has at most 524,288 bytes
-numbers-most : (l f k : ℕ) → length (numbersText l f k) ≤ 88
-unfolding numbersText intervalsText faultsText skippedText
-numbers-most l f k = simp length-append (omega (arith, decimal-most l, decimal-most f, decimal-most k))
-
-refused-most : (a : Answer) → length (refusedText a) ≤ 29
-unfolding refusedText
-refused-most a = simp length-append (omega (arith, decimal-most (numberOf a)))
-
 listed-most : (d : Description) (s : List ℕ) → Segment d → lengthOf d ≡ length s → length s ≤ 65536 → length (listedText d s) ≤ 524288
 unfolding listedText totalText headerText
 listed-most d s g long h =

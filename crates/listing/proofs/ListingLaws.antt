@@ -1,8 +1,8 @@
--- The laws of a listing: its last line, its refusal, the lines of a segment, and all of it one after another.
+-- The laws of a listing: the lines of a segment, and all of it one after another.
 -- Assumes nothing.
 use mathlib.Core.Path.{_≡_, refl, sym, ap, ap₂, _∙_}
 use mathlib.Core.Bool.{Bool, true, false, not}
-use mathlib.Core.List.{List, [], _∷_, _++_, append-assoc}
+use mathlib.Core.List.{List, []}
 use Prim.Native.Nat.{ℕ, _+_, _-_, _*_, _^_, _≤_, zero-le}
 use native.Mathlib.Nat.{zero-add, mul-assoc, mul-le-mul, le-refl}
 use native.Mathlib.Omega.{arith}
@@ -10,7 +10,7 @@ use borrow.Author.Tests.{eq-eqb, ne-eqb, eqb-true, eqb-false, not-true, not-fals
 use lib.Dec.{eqb}
 use lib.ListN.{length, take, drop, length-drop}
 use lib.Seq.{take-all}
-use Rattle.answer.specs.Answer.{numberOf, isGood}
+use Rattle.answer.specs.Answer.{isGood}
 use Rattle.answer.specs.declared.Answer.{Answer}
 use Rattle.segment.specs.declared.Description.{Description}
 use Rattle.segment.specs.Segment.{Segment, intervalsOf, sizeOf, storedOf, lengthOf}
@@ -25,24 +25,16 @@ use Rattle.segment.proofs.Places.{span-all}
 use Rattle.rules.specs.Rules.{rulesOf, startOf}
 use Rattle.rules.proofs.Laws.{side-run}
 use Rattle.writing.specs.Laid.{laid, Written}
-use Rattle.writing.proofs.Writing.{written-then, written-as}
-use Rattle.digits.specs.Digits.{decimal}
+use Rattle.writing.proofs.Writing.{written-then}
 use Rattle.sheet.specs.declared.Sheet.{Sheet}
-use Rattle.sheet.specs.Sheet.{blockLines, Printed, Room}
+use Rattle.sheet.specs.Sheet.{Printed, Room}
+use Rattle.body.specs.Body.{blockLines}
+use Rattle.closing.specs.Closing.{numbersText, refusedText}
 use Rattle.records.specs.Record.{recordAnswer, describedBy, segmentIn}
-use Rattle.listing.specs.Listing.{readAll, linesOf, headerText, intervalsText, faultsText, skippedText, numbersText, totalText, listedText, refusedText, listing, Listed}
+use Rattle.listing.specs.Listing.{readAll, linesOf, headerText, totalText, listedText, listing, Listed}
 use Rattle.sheet.proofs.SheetLaws.{sheet, printed-none, printed-as, room-next, room-less, first-room}
-use Rattle.sheet.proofs.BlockLaws.{blocks-length}
+use Rattle.body.proofs.BlockLaws.{blocks-length}
 use Rattle.records.proofs.RecordLaws.{Whole, record-whole}
-
--- ---- a refusal
-abbrev pub refusedWord : List ℕ
-refusedWord = 0x72 ∷ 0x65 ∷ 0x66 ∷ 0x75 ∷ 0x73 ∷ 0x65 ∷ 0x64 ∷ 0x20 ∷ []
-
-pub refused-written : (a : Answer) {n at z : ℕ} {o oz : List ℕ} → n ≡ numberOf a → Written (refusedWord ++ (decimal n ++ (0x0A ∷ []))) at o z oz
-    → Written (refusedText a) at o z oz
-unfolding refusedText
-refused-written a e w = written-as (ap (λ (i : ℕ). refusedWord ++ (decimal i ++ (0x0A ∷ []))) e) w
 
 -- ---- the lines of a segment
 module _ (d : Description) (s : List ℕ) (g : Segment d) (long : lengthOf d ≡ length s) where
@@ -100,13 +92,6 @@ module _ (d : Description) (s : List ℕ) (g : Segment d) (long : lengthOf d ≡
   lines-end {at} {u} small few w =
       let room : Room (sheet at 0 0 0) (length (linesOf d s) + 0) = first-room at _ small (omega (arith, lines-length)) in
       omega (arith, room-next 0 room w .at)
-
--- ---- the last line
-module _ (l f k : ℕ) {at a b z : ℕ} {o oa ob oz : List ℕ} where
-  pub numbers-written : Written (intervalsText ++ (decimal l ++ (0x20 ∷ []))) at o a oa → Written (faultsText ++ (decimal f ++ (0x20 ∷ []))) a oa b ob
-      → Written (skippedText ++ (decimal k ++ (0x0A ∷ []))) b ob z oz → Written (numbersText l f k) at o z oz
-  unfolding numbersText
-  numbers-written wl wf wk = written-as (simp append-assoc) (written-then wl (written-then wf wk))
 
 -- ---- all of it
 pub tail-whole : (n : ℕ) (s : List ℕ) → take (length s - n) (drop n s) ≡ drop n s

@@ -5,8 +5,7 @@ use mathlib.Core.List.{List, [], _∷_, _++_}
 use mathlib.Core.Path.{_≡_}
 use lib.Dec.{eqb}
 use lib.ListN.{length}
-use Rattle.answer.specs.Answer.{numberOf, isGood}
-use Rattle.answer.specs.declared.Answer.{Answer}
+use Rattle.answer.specs.Answer.{isGood}
 use Rattle.segment.specs.declared.Description.{Description}
 use Rattle.command.specs.declared.Command.{Command}
 use Rattle.command.specs.declared.Operation.the-variants.{Read}
@@ -14,9 +13,10 @@ use Rattle.command.specs.Sixteen.{sixteen}
 use Rattle.sides.specs.declared.Side.the-variants.{Stored}
 use Rattle.rules.specs.Rules.{rulesOf, startOf}
 use Rattle.writing.specs.Laid.{laid}
-use Rattle.digits.specs.Digits.{decimal}
 use Rattle.lines.specs.declared.Line.{Line}
-use Rattle.sheet.specs.Sheet.{blockLines, faulty, skips, countOf, linesText}
+use Rattle.sheet.specs.Sheet.{faulty, skips, countOf, linesText}
+use Rattle.body.specs.Body.{blockLines}
+use Rattle.closing.specs.Closing.{numbersText, refusedText}
 use Rattle.records.specs.Record.{recordAnswer, describedBy, segmentIn}
 
 -- The states are those of judging with what code 001 of a 16-byte READ of the whole segment checks: the guard, and in type 1 the
@@ -34,31 +34,12 @@ headerText =
     0x6C ∷ 0x62 ∷ 0x61 ∷ 0x20 ∷ 0x69 ∷ 0x6E ∷ 0x74 ∷ 0x65 ∷ 0x72 ∷ 0x76 ∷ 0x61 ∷ 0x6C ∷ 0x20 ∷ 0x67 ∷ 0x75 ∷ 0x61 ∷ 0x72 ∷ 0x64
     ∷ 0x20 ∷ 0x61 ∷ 0x70 ∷ 0x70 ∷ 0x20 ∷ 0x72 ∷ 0x65 ∷ 0x66 ∷ 0x20 ∷ 0x73 ∷ 0x74 ∷ 0x61 ∷ 0x74 ∷ 0x65 ∷ 0x0A ∷ []
 
--- `intervals `, `faults `, `skipped `
-unfoldable pub intervalsText : List ℕ
-intervalsText = 0x69 ∷ 0x6E ∷ 0x74 ∷ 0x65 ∷ 0x72 ∷ 0x76 ∷ 0x61 ∷ 0x6C ∷ 0x73 ∷ 0x20 ∷ []
-
-unfoldable pub faultsText : List ℕ
-faultsText = 0x66 ∷ 0x61 ∷ 0x75 ∷ 0x6C ∷ 0x74 ∷ 0x73 ∷ 0x20 ∷ []
-
-unfoldable pub skippedText : List ℕ
-skippedText = 0x73 ∷ 0x6B ∷ 0x69 ∷ 0x70 ∷ 0x70 ∷ 0x65 ∷ 0x64 ∷ 0x20 ∷ []
-
--- "the last gives the number of interval lines, of those in state `guard` or `ref`, and of those `skipped`"
-unfoldable pub numbersText : ℕ → ℕ → ℕ → List ℕ
-numbersText all faults skipped =
-    intervalsText ++ (decimal all ++ (0x20 ∷ faultsText ++ (decimal faults ++ (0x20 ∷ skippedText ++ (decimal skipped ++ (0x0A ∷ []))))))
-
 unfoldable pub totalText : List Line → List ℕ
 totalText ls = numbersText (length ls) (countOf faulty ls) (countOf skips ls)
 
 -- "Unless refused, header and last line stand"
 unfoldable pub listedText : Description → List ℕ → List ℕ
 listedText d s = headerText ++ (linesText (linesOf d s) ++ totalText (linesOf d s))
-
--- "a refusal prints one line only, `refused`, a space and the number"
-unfoldable pub refusedText : Answer → List ℕ
-refusedText a = 0x72 ∷ 0x65 ∷ 0x66 ∷ 0x75 ∷ 0x73 ∷ 0x65 ∷ 0x64 ∷ 0x20 ∷ decimal (numberOf a) ++ (0x0A ∷ [])
 
 -- exactly the bytes to be printed of a record
 unfoldable pub listing : List ℕ → List ℕ

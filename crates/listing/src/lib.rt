@@ -1,23 +1,15 @@
 // A record to the bytes of its listing.
 ghost use mathlib.Core.Path.{_≡_};
-ghost use Prim.Native.Nat.{_+_, _≤_, _^_};
+ghost use Prim.Native.Nat.{_≤_};
 ghost use lib.ListN.{length};
 ghost use Rattle.segment.specs.Segment.{Segment, lengthOf};
 ghost use Rattle.writing.specs.Laid.{Written};
 ghost use Rattle.sheet.specs.Sheet.{Printed, Room};
-ghost use Rattle.listing.specs.Listing.{linesOf, numbersText, listedText, refusedText, Listed};
-use answer::Answer;
+ghost use Rattle.listing.specs.Listing.{linesOf, listedText, Listed};
 use command::Operation;
 use segment::Description;
 use sheet::Sheet;
 use sides::Side;
-
-// The one line of a refusal.
-fn print_refused(out: &mut [u8], a: Answer) -> usize
-    ensures { λ r. ⌜ Written (refusedText a) 0 (now (out .entry)) r (now (out .exit)) ⌝ }
-{
-    text::labelled(out, 0, b"refused ", answer::number(a), 0x0A)
-}
 
 // The lines of a segment, printed; type 0 has none. The states are those of what code 001 of a 16-byte READ of the whole segment
 // checks. The type rules are not applied: in type 2 such a command itself would be answered 5.
@@ -34,17 +26,7 @@ fn print_segment(d: Description, s: &[u8], out: &mut [u8], sheet: Sheet) -> Shee
     let t = guard::table();
     let r = rules::rules(Side::Stored, d, c);
     let p = rules::start(d, c);
-    sheet::print_blocks(&t, r, p, d.count as usize, s, out, sheet)
-}
-
-// The last line: how many lines there are, how many with a fault, how many skipped.
-fn print_total(out: &mut [u8], t: Sheet) -> usize
-    requires { ⌜ t .at + 88 ≤ 2 ^ 32 ⌝ }
-    ensures { λ r. ⌜ Written (numbersText (t .lines) (t .faults) (t .skipped)) (t .at) (now (out .entry)) r (now (out .exit)) ⌝ }
-{
-    let a = text::labelled(out, t.at, b"intervals ", t.lines, 0x20);
-    let b = text::labelled(out, a, b"faults ", t.faults, 0x20);
-    text::labelled(out, b, b"skipped ", t.skipped, 0x0A)
+    body::print_blocks(&t, r, p, d.count as usize, s, out, sheet)
 }
 
 // The listing of a segment: header, lines, last line.
@@ -66,7 +48,7 @@ fn print_listed(d: Description, s: &[u8], out: &mut [u8]) -> usize
             skipped: 0,
         },
     );
-    print_total(out, sheet)
+    closing::print_total(out, sheet)
 }
 
 // Writes the listing of a record to `out`: of its bytes, as many as there is room for. Hands back how many bytes the whole listing has.
@@ -75,7 +57,7 @@ pub fn list(input: &[u8], out: &mut [u8]) -> usize
 {
     let a = records::record_answer(input);
     if !answer::is_good(a) {
-        return print_refused(out, a);
+        return closing::print_refused(out, a);
     }
     print_listed(records::described_by(input), &input[19..], out)
 }

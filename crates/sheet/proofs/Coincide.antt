@@ -4,10 +4,10 @@
 use mathlib.Core.Path.{_≡_, sym, _∙_}
 use denote.Ref.{now}
 use Rattle.sheet.proofs.SheetLaws.{same-sheet}
-use Rattle.sheet.proofs.print_blocks.Reads as print-blocks-reads
+use Rattle.sheet.proofs.print_interval.Reads as print-interval-reads
 
-pub print-blocks : (κs : _) (a : _) (x y : _) (s t : _) → print-blocks-reads.Post κs a x s → print-blocks-reads.Post κs a y t → (x ≡ y) × (now (s .1 .1 .1 .1 .1 .0) ≡ now (t .1 .1 .1 .1 .1 .0))
-print-blocks κs a x y s t p q = (
+pub print-interval : (κs : _) (a : _) (x y : _) (s t : _) → print-interval-reads.Post κs a x s → print-interval-reads.Post κs a y t → (x ≡ y) × (now (s .1 .1 .1 .1 .1 .1 .0) ≡ now (t .1 .1 .1 .1 .1 .1 .0))
+print-interval κs a x y s t p q = (
   same-sheet x y (p .text .end ∙ sym (q .text .end)) (p .lines ∙ sym (q .lines)) (p .faults ∙ sym (q .faults)) (p .skipped ∙ sym (q .skipped)),
   p .text .now ∙ sym (q .text .now),
 )

@@ -1,3 +1,2 @@
 pub mod SheetLaws
-pub mod BlockLaws
 pub mod Coincide

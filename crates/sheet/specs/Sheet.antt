@@ -1,36 +1,14 @@
--- The lines of a block and of a run of blocks: their text and how many there are.
-use Prim.Native.Nat.{ℕ, zero, suc, _+_, _*_, _≤_, _^_}
-use mathlib.Core.Bool.{Bool}
+-- Lines: their text, how many there are in a state, and what printing them hands back and asks.
+use Prim.Native.Nat.{ℕ, _+_, _*_, _≤_, _^_}
 use mathlib.Core.List.{List, [], _∷_, _++_}
 use mathlib.Core.Path.{_≡_}
-use lib.ListN.{length, drop}
-use Rattle.interval.specs.declared.Rules.{Rules}
-use Rattle.interval.specs.declared.Place.{Place}
-use Rattle.interval.specs.Interval.{anyEscapes}
-use Rattle.judge.specs.Judge.{nextInterval, nextBlock}
+use lib.ListN.{length}
 use Rattle.writing.specs.Laid.{Written}
 use Rattle.lines.specs.declared.Line.{Line}
 use Rattle.lines.specs.declared.State.{State}
 use Rattle.lines.specs.declared.State.the-variants.{Skipped, Guard, Ref, Ok}
-use Rattle.lines.specs.Lines.{lineOf, lineText}
+use Rattle.lines.specs.Lines.{lineText}
 use Rattle.sheet.specs.declared.Sheet.{Sheet}
-
--- the lines of k intervals of a block, from interval i on
-unfoldable pub intervalLines : Rules → Bool → ℕ → ℕ → Place → List ℕ → List Line
-intervalLines r skipped zero i p s = []
-intervalLines r skipped (suc k) i p s =
-    lineOf r skipped i p s ∷ intervalLines r skipped k (i + 1) (nextInterval p) (drop (r .size + 8) s)
-
--- the lines of a block
-unfoldable pub linesIn : Rules → Place → List ℕ → List Line
-linesIn r p s = intervalLines r (anyEscapes (r .escape) (r .size) (r .intervals) s) (r .intervals) 0 p s
-
--- the lines of k blocks
-unfoldable pub blockLines : Rules → ℕ → Place → List ℕ → List Line
-blockLines r zero p s = []
-blockLines r (suc k) p s =
-    linesIn r p s
-    ++ blockLines r k (nextBlock (r .intervals) p) (drop (r .intervals * (r .size + 8)) s)
 
 -- how many lines are in a state
 abbrev pub faulty : State → ℕ

@@ -16,7 +16,7 @@ use Rattle.judge.specs.Judge.{nextInterval, nextBlock}
 use Rattle.judge.proofs.BlockLaws.{own-interval}
 use Rattle.lines.specs.declared.Line.{Line}
 use Rattle.lines.specs.Lines.{stateOf, lineOf}
-use Rattle.sheet.specs.Sheet.{intervalLines, linesIn, blockLines}
+use Rattle.body.specs.Body.{intervalLines, linesIn, blockLines}
 
 -- ---- the lines of the intervals of a block
 module _ (r : Rules) (k : Bool) where

@@ -1,10 +1,10 @@
--- `listing::print_refused`: the word, then the number and the end of the line.
+-- `closing::print_refused`: the word, then the number and the end of the line.
 -- Assumes nothing.
 use mathlib.Core.Path.{refl}
-use Rattle.listing.proofs.ListingLaws.{refused-written}
+use Rattle.closing.proofs.ClosingLaws.{refused-written}
 use borrow.Author.Needs.{needs}
-use Rattle.listing.proofs.print_refused.Statement.{statement}
-use Rattle.listing.proofs.print_refused.Tie as tie
+use Rattle.closing.proofs.print_refused.Statement.{statement}
+use Rattle.closing.proofs.print_refused.Tie as tie
 
 returns : tie.Need-returns
 returns c = refused-written _ (c .before .before .before .number .ensures) (c .before .before .labelled .ensures)

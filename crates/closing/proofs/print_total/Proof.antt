@@ -1,15 +1,15 @@
--- `listing::print_total`: words and numbers, one after another, each with room left for those behind it.
+-- `closing::print_total`: words and numbers, one after another, each with room left for those behind it.
 -- Assumes nothing.
 use mathlib.Core.Path.{refl}
 use Prim.Native.Nat.{_+_, _≤_, _^_}
 use native.Mathlib.Omega.{arith}
 use Rattle.writing.proofs.Writing.{written-length}
 use Rattle.text.proofs.Ends.{labelled-end}
-use Rattle.listing.specs.Listing.{intervalsText, faultsText, skippedText}
-use Rattle.listing.proofs.ListingLaws.{numbers-written}
+use Rattle.closing.specs.Closing.{intervalsText, faultsText, skippedText}
+use Rattle.closing.proofs.ClosingLaws.{numbers-written}
 use borrow.Author.Needs.{needs}
-use Rattle.listing.proofs.print_total.Statement.{statement}
-use Rattle.listing.proofs.print_total.Tie as tie
+use Rattle.closing.proofs.print_total.Statement.{statement}
+use Rattle.closing.proofs.print_total.Tie as tie
 
 -- the room behind each text
 room1 : (c : tie.After-labelled) → c .labelled .result + 57 ≤ 2 ^ 32
