@@ -28,12 +28,13 @@ use Rattle.sheet.specs.Sheet.{faulty, skips, countOf, linesText}
 use Rattle.body.specs.Body.{intervalLines, linesIn, blockLines}
 use Rattle.closing.specs.Closing.{numbersText, refusedText}
 use Rattle.records.specs.Record.{recordAnswer, describedBy, segmentIn}
-use Rattle.listing.specs.Listing.{readAll, linesOf, headerText, totalText, listedText, listing, Listed}
+use Rattle.contents.specs.Contents.{readAll, linesOf}
+use Rattle.listing.specs.Listing.{headerText, totalText, listedText, listing, Listed}
 use Rattle.sheet.proofs.SheetLaws.{count-append, lines-most}
 use Rattle.body.proofs.BlockLaws.{blocks-length}
 use Rattle.closing.proofs.ClosingLaws.{numbers-most, refused-most}
 use Rattle.records.proofs.RecordLaws.{record-whole}
-use Rattle.listing.proofs.ListingLaws.{lines-none, lines-are, lines-length}
+use Rattle.contents.proofs.SegmentLaws.{lines-none, lines-are, lines-length}
 
 -- ---- the last line's numbers are those of the lines that stand above it
 pub totals-count : (d : Description) (s : List ℕ)

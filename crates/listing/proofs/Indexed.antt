@@ -33,10 +33,10 @@ use Rattle.lines.specs.declared.State.the-variants.{Skipped}
 use Rattle.lines.specs.Lines.{worded, stateOf, lineOf}
 use Rattle.sheet.specs.Sheet.{faulty}
 use Rattle.body.specs.Body.{intervalLines, linesIn, blockLines}
-use Rattle.listing.specs.Listing.{readAll, linesOf}
+use Rattle.contents.specs.Contents.{readAll, linesOf}
 use Rattle.listing.specs.Indexed.{fieldAt, escapedAt, stateAt, lineAt}
 use Rattle.body.proofs.BlockLaws.{block-length}
-use Rattle.listing.proofs.ListingLaws.{lines-are}
+use Rattle.contents.proofs.SegmentLaws.{lines-are}
 use Rattle.listing.proofs.States.{state-in-words}
 use Rattle.listing.proofs.Demands.{fault-interval, read-plain}
 

@@ -3,7 +3,7 @@
 use mathlib.Core.Path.{_≡_, refl, ap, _∙_}
 use mathlib.Core.Bool.{Bool, true, false, not, _&&_, _||_, cond}
 use mathlib.Core.List.{List}
-use Prim.Native.Nat.{ℕ, _+_, _%_, _^_, _<_}
+use Prim.Native.Nat.{ℕ, _+_, _%_, _^_}
 use native.Mathlib.Nat.{mod-lt, mod-add-mod, mul-one, zero-add}
 use native.Mathlib.Omega.{arith}
 use borrow.Author.Tests.{eq-eqb}
@@ -25,7 +25,7 @@ use Rattle.rules.specs.Rules.{columnsOf, applicationKnown, referenceKnown, firs
 use Rattle.lines.specs.declared.State.{State}
 use Rattle.lines.specs.declared.State.the-variants.{Skipped, Guard, Ref, Ok}
 use Rattle.lines.specs.Lines.{worded, stateOf}
-use Rattle.listing.specs.Listing.{readAll}
+use Rattle.contents.specs.Contents.{readAll}
 
 abbrev inWords : Bool → Bool → Bool → State
 inWords skipped g r = cond skipped Skipped (cond g Guard (cond r Ref Ok))

@@ -3,30 +3,15 @@ use Prim.Native.Nat.{ℕ}
 use mathlib.Core.Bool.{cond}
 use mathlib.Core.List.{List, [], _∷_, _++_}
 use mathlib.Core.Path.{_≡_}
-use lib.Dec.{eqb}
 use lib.ListN.{length}
 use Rattle.answer.specs.Answer.{isGood}
 use Rattle.segment.specs.declared.Description.{Description}
-use Rattle.command.specs.declared.Command.{Command}
-use Rattle.command.specs.declared.Operation.the-variants.{Read}
-use Rattle.command.specs.Sixteen.{sixteen}
-use Rattle.sides.specs.declared.Side.the-variants.{Stored}
-use Rattle.rules.specs.Rules.{rulesOf, startOf}
 use Rattle.writing.specs.Laid.{laid}
 use Rattle.lines.specs.declared.Line.{Line}
 use Rattle.sheet.specs.Sheet.{faulty, skips, countOf, linesText}
-use Rattle.body.specs.Body.{blockLines}
+use Rattle.contents.specs.Contents.{linesOf}
 use Rattle.closing.specs.Closing.{numbersText, refusedText}
 use Rattle.records.specs.Record.{recordAnswer, describedBy, segmentIn}
-
--- The states are those of judging with what code 001 of a 16-byte READ of the whole segment checks: the guard, and in type 1 the
--- reference. The type rules are not applied: in type 2 such a command itself would be answered 5.
-abbrev pub readAll : Description → Command
-readAll d = sixteen Read (d .first) (d .count)
-
--- "Type 0 has no interval lines."
-unfoldable pub linesOf : Description → List ℕ → List Line
-linesOf d s = cond (eqb (d .kind) 0) [] (blockLines (rulesOf Stored d (readAll d)) (d .count) (startOf d (readAll d)) s)
 
 -- `lba interval guard app ref state`
 unfoldable pub headerText : List ℕ

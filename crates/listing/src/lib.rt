@@ -4,30 +4,9 @@ ghost use Prim.Native.Nat.{_≤_};
 ghost use lib.ListN.{length};
 ghost use Rattle.segment.specs.Segment.{Segment, lengthOf};
 ghost use Rattle.writing.specs.Laid.{Written};
-ghost use Rattle.sheet.specs.Sheet.{Printed, Room};
-ghost use Rattle.listing.specs.Listing.{linesOf, listedText, Listed};
-use command::Operation;
+ghost use Rattle.listing.specs.Listing.{listedText, Listed};
 use segment::Description;
 use sheet::Sheet;
-use sides::Side;
-
-// The lines of a segment, printed; type 0 has none. The states are those of what code 001 of a 16-byte READ of the whole segment
-// checks. The type rules are not applied: in type 2 such a command itself would be answered 5.
-fn print_segment(d: Description, s: &[u8], out: &mut [u8], sheet: Sheet) -> Sheet
-    requires { ⌜ Segment d ⌝ }
-    requires { ⌜ lengthOf d ≡ length (now s) ⌝ }
-    requires { ⌜ Room sheet (length (now s)) ⌝ }
-    ensures { λ x. ⌜ Printed (linesOf d (now (s .entry))) sheet (now (out .entry)) x (now (out .exit)) ⌝ }
-{
-    if d.kind == 0 {
-        return sheet;
-    }
-    let c = command::sixteen(Operation::Read, d.first, d.count);
-    let t = guard::table();
-    let r = rules::rules(Side::Stored, d, c);
-    let p = rules::start(d, c);
-    body::print_blocks(&t, r, p, d.count as usize, s, out, sheet)
-}
 
 // The listing of a segment: header, lines, last line.
 fn print_listed(d: Description, s: &[u8], out: &mut [u8]) -> usize
@@ -37,7 +16,7 @@ fn print_listed(d: Description, s: &[u8], out: &mut [u8]) -> usize
     ensures { λ r. ⌜ Written (listedText d (now (s .entry))) 0 (now (out .entry)) r (now (out .exit)) ⌝ }
 {
     let at = writing::put_word(out, 0, b"lba interval guard app ref state\n");
-    let sheet = print_segment(
+    let sheet = contents::print_segment(
         d,
         s,
         out,

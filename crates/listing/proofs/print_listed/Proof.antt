@@ -5,7 +5,8 @@ use native.Mathlib.Omega.{arith}
 use lib.Dec.{lit≤}
 use Rattle.writing.proofs.Writing.{written-length}
 use Rattle.sheet.proofs.SheetLaws.{first-room}
-use Rattle.listing.proofs.ListingLaws.{lines-end, listed-written}
+use Rattle.contents.proofs.SegmentLaws.{lines-end}
+use Rattle.listing.proofs.ListingLaws.{listed-written}
 use Rattle.listing.specs.Listing.{headerText}
 use Rattle.listing.proofs.print_listed.Statement.{statement}
 use Rattle.listing.proofs.print_listed.Tie as tie

@@ -1,9 +1,9 @@
--- `listing::print_segment`: type 0 has no lines; the others have those of their blocks.
+-- `contents::print_segment`: type 0 has no lines; the others have those of their blocks.
 -- Assumes nothing.
-use Rattle.listing.proofs.ListingLaws.{lines-plain, blocks-run, blocks-room, blocks-printed}
+use Rattle.contents.proofs.SegmentLaws.{lines-plain, blocks-run, blocks-room, blocks-printed}
 use borrow.Author.Needs.{needs}
-use Rattle.listing.proofs.print_segment.Statement.{statement}
-use Rattle.listing.proofs.print_segment.Tie as tie
+use Rattle.contents.proofs.print_segment.Statement.{statement}
+use Rattle.contents.proofs.print_segment.Tie as tie
 
 returns : tie.Need-returns
 returns c = lines-plain _ _ (c .before .before .before .before .pre .0) (c .before .before .before .before .pre .1 .0) (c .if1 .taken)
