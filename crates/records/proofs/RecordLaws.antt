@@ -3,7 +3,7 @@
 use mathlib.Core.Path.{_≡_, refl, sym, _∙_}
 use mathlib.Core.Bool.{Bool, true, false, not}
 use mathlib.Core.List.{List}
-use Prim.Native.Nat.{ℕ, _+_, _-_}
+use Prim.Native.Nat.{ℕ, _+_, _-_, _≤_}
 use borrow.Author.Tests.{le-ltb, eq-eqb, ltb-false, eqb-true, not-false}
 use lib.Dec.{eqb, ltb}
 use lib.ListN.{length, getD, length-drop}
@@ -36,15 +36,16 @@ frame-facts input e =
       version = eqb-true _ _ (not-false _ (whole .1));
     }
 
-pub frame-good : (input : List ℕ) → Framed input → frameBad input ≡ false
+-- where all else is in order, the version alone is left to ask
+pub frame-version : (input : List ℕ) → 4 ≤ length input → numberAt 0 4 input ≤ 65532 → 15 ≤ numberAt 0 4 input → length input ≡ 4 + numberAt 0 4 input
+    → not (eqb (getD input 4 0) 1) ≡ frameBad input
 unfolding frameBad
-frame-good input f =
+frame-version input start most least whole =
     rw (
-      le-ltb (length input) 4 (f .start),
-      le-ltb 65532 (numberAt 0 4 input) (f .most),
-      le-ltb (numberAt 0 4 input) 15 (f .least),
-      eq-eqb (length input) (4 + numberAt 0 4 input) (f .whole),
-      eq-eqb (getD input 4 0) 1 (f .version),
+      le-ltb (length input) 4 start,
+      le-ltb 65532 (numberAt 0 4 input) most,
+      le-ltb (numberAt 0 4 input) 15 least,
+      eq-eqb (length input) (4 + numberAt 0 4 input) whole,
     )
     refl
 

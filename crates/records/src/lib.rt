@@ -22,10 +22,7 @@ fn frame_bad(input: &[u8]) -> bool
     if input.len() != 4 + length {
         return true;
     }
-    if input[4] != 1 {
-        return true;
-    }
-    false
+    input[4] != 1
 }
 
 // The description that a record gives.

@@ -1,8 +1,7 @@
--- `records::frame_bad`: each refusal denies a fact of the frame, and the last return has them all.
+-- `records::frame_bad`: each refusal denies a fact of the frame, and the last asks the one that is left.
 -- Assumes nothing.
 use native.Mathlib.Omega.{arith}
-use mathlib.Core.Path.{sym}
-use Rattle.records.proofs.RecordLaws.{frame-bad, frame-good}
+use Rattle.records.proofs.RecordLaws.{frame-bad, frame-version}
 use borrow.Author.Needs.{needs}
 use Rattle.records.proofs.frame_bad.Statement.{statement}
 use Rattle.records.proofs.frame_bad.Tie as tie
@@ -20,10 +19,9 @@ returns-4 : tie.Need-returns-4
 returns-4 c = frame-bad _ (λ f. c .if4 .taken (omega (arith, f .whole, c .before .before .before .read4 .ensures)))
 
 returns-5 : tie.Need-returns-5
-returns-5 c = frame-bad _ (λ f. c .if5 .taken (f .version))
-
-returns-6 : tie.Need-returns-6
-returns-6 c = sym (frame-good _ (record { start = omega arith; most = omega (arith, c .before .before .before .before .before .read4 .ensures); least = omega (arith, c .before .before .before .before .before .read4 .ensures); whole = omega (arith, c .before .before .before .before .before .read4 .ensures); version = c .if5 .left }))
+returns-5 c =
+    let length = c .before .before .before .before .read4 .ensures in
+    frame-version _ (omega arith) (omega (arith, length)) (omega (arith, length)) (omega (arith, length))
 
 pub frame-bad-spec : {M : Type 1} → statement M
 frame-bad-spec =
@@ -36,5 +34,4 @@ frame-bad-spec =
     (λ c. search needs)
     returns-4
     (λ c. search needs)
-    returns-5
-    returns-6)
+    returns-5)
