@@ -1,4 +1,4 @@
--- The laws of a listing: the lines of a segment, and all of it one after another.
+-- The laws of a listing: all of it, one after another.
 -- Assumes nothing.
 use mathlib.Core.Path.{_≡_, sym, ap, ap₂, _∙_}
 use mathlib.Core.Bool.{Bool, true, false, not}
