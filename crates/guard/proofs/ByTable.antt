@@ -8,13 +8,13 @@ use native.Mathlib.Nat.{mod-lt, mod-eq-of-lt, lt-of-lt-of-le, div-add-mod', add-
 use native.Mathlib.Omega.{arith}
 use lib.Bits.{bitXor, xor-lt, xor-block, xor-shifted, xor-comm, xor-zero-r}
 use lib.Dec.{T, lit<, eqb, eqb→eq}
-use lib.ListN.{length}
+use lib.ListN.{length, getD, drop}
 use Rattle.words.specs.Parts.{Bytes}
 use Rattle.words.proofs.Every.{every, each}
 use Rattle.guard.specs.Guard.{guard}
 use Rattle.guard.specs.Remainder.{times, stepByte, guardFrom}
 use Rattle.guard.specs.Table.{Right, tableStep, through}
-use Rattle.guard.proofs.Remainder.{times-xor, times-small, stepByte-lt}
+use Rattle.guard.proofs.Remainder.{times-xor, times-small, stepByte-lt, guard-next}
 use Rattle.guard.proofs.Division.{guard-from-zero}
 
 -- "entry v being the guard of the single byte v", as a test
@@ -48,6 +48,12 @@ pub table-step : (t : List ℕ) (r b : ℕ) → Right t → r < 65536 → b < 25
 unfolding tableStep
 table-step t r b right h hb =
     ap (bitXor (r % 256 * 256)) (right .entry (bitXor (r / 256) b) (xor-lt 8 (r / 256) b (omega arith) hb)) ∙ sym (step r b h hb)
+
+-- in a loop through a right table: a byte more leaves a remainder, and what is left gives what the whole gives
+pub table-next : (t s : List ℕ) (r n i g : ℕ) → Right t → r < 65536 → i < length s → getD s i 0 < 256 → n ≡ tableStep t r (getD s i 0) → guardFrom r (drop i s) ≡ g → (n < 65536) × (guardFrom n (drop (i + 1) s) ≡ g)
+table-next t s r n i g right h here byte step e =
+    let by : n ≡ stepByte r (getD s i 0) = step ∙ table-step t r _ right h byte in
+    (rw by (stepByte-lt r _), rw by (guard-next s r i g here e))
 
 through-from : (t s : List ℕ) (r : ℕ) → Right t → r < 65536 → Bytes s → through t r s ≡ guardFrom r s
 unfolding through guardFrom

@@ -1,17 +1,17 @@
 -- `guard::copy_with_guard`: many bytes by the two functions that it calls; of few, what is copied and what is left make up the source, and the bytes that are left, from the remainder so far, give what all of them give.
 -- Assumes nothing.
-use mathlib.Core.Path.{_≡_, refl, sym, _∙_}
+use mathlib.Core.Path.{_≡_, refl, sym}
 use mathlib.Core.List.{_++_}
 use Prim.Native.Nat.{_≤_, _<_, _-_, zero-le}
 use native.Mathlib.Omega.{arith}
 use lib.Dec.{lit<}
-use lib.ListN.{length, getD, take, drop, length-set}
+use lib.ListN.{length, take, drop, length-set}
 use Rattle.words.proofs.Parts.{copied-next, copied}
 use Rattle.guard.specs.Guard.{guard}
-use Rattle.guard.specs.Remainder.{guardFrom, stepByte}
-use Rattle.guard.proofs.ByTable.{table-step}
+use Rattle.guard.specs.Remainder.{guardFrom}
+use Rattle.guard.proofs.ByTable.{table-next}
 use Rattle.guard.proofs.Division.{guard-from-zero}
-use Rattle.guard.proofs.Remainder.{stepByte-lt, guard-next, guard-end}
+use Rattle.guard.proofs.Remainder.{guard-end}
 use borrow.Author.Needs.{needs}
 use Rattle.guard.proofs.copy_with_guard.Statement.{statement}
 use Rattle.guard.proofs.copy_with_guard.Tie as tie
@@ -35,9 +35,8 @@ loop-again c =
     let start = c .before .before .before .before .before .before .before in
     let s = start .args .«data» .now in
     let here : l .i < length s = omega arith in
-    let r : c .table-step .result ≡ stepByte (l .r) (getD s (l .i) 0) =
-    c .table-step .ensures ∙ table-step _ _ _ (start .pre .0) (l .inv .3) (c .before .shared-slice-known2 .given (l .i) .fits) in
-    (simp length-set (l .inv .0), omega arith, copied-next (l .d) s (l .i) (omega arith) here (l .inv .2), rw r (stepByte-lt (l .r) _), rw r (guard-next s (l .r) (l .i) _ here (l .inv .4)))
+    let next = table-next _ s (l .r) _ (l .i) _ (start .pre .0) (l .inv .3) here (c .before .shared-slice-known2 .given (l .i) .fits) (c .table-step .ensures) (l .inv .4) in
+    (simp length-set (l .inv .0), omega arith, copied-next (l .d) s (l .i) (omega arith) here (l .inv .2), next .0, next .1)
 
 returns-2 : tie.Need-returns-2 Inv-loop μ-loop
 returns-2 c =

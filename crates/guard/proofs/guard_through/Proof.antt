@@ -1,15 +1,15 @@
 -- `guard::guard_through`: the bytes that are left, from the remainder so far, give what all of them give; a step through a right table is a step of the guard.
 -- Assumes nothing.
-use mathlib.Core.Path.{_≡_, sym, _∙_}
+use mathlib.Core.Path.{_≡_, sym}
 use Prim.Native.Nat.{_≤_, _<_, _-_, zero-le}
 use native.Mathlib.Omega.{arith}
 use lib.Dec.{lit<}
-use lib.ListN.{length, getD, drop}
+use lib.ListN.{length, drop}
 use Rattle.guard.specs.Guard.{guard}
-use Rattle.guard.specs.Remainder.{guardFrom, stepByte}
-use Rattle.guard.proofs.ByTable.{table-step}
+use Rattle.guard.specs.Remainder.{guardFrom}
+use Rattle.guard.proofs.ByTable.{table-next}
 use Rattle.guard.proofs.Division.{guard-from-zero}
-use Rattle.guard.proofs.Remainder.{stepByte-lt, guard-next, guard-end}
+use Rattle.guard.proofs.Remainder.{guard-end}
 use borrow.Author.Needs.{needs}
 use Rattle.guard.proofs.guard_through.Statement.{statement}
 use Rattle.guard.proofs.guard_through.Tie as tie
@@ -27,11 +27,8 @@ loop-again : tie.Need-loop-again Inv-loop μ-loop
 loop-again c =
     let l = c .before .before .before .loop in
     let s = c .before .before .before .before .before .args .«data» .now in
-    let here : l .i < length s = omega arith in
-    let r : c .table-step .result ≡ stepByte (l .r) (getD s (l .i) 0) =
-    c .table-step .ensures
-    ∙ table-step _ _ _ (c .before .before .before .before .before .pre) (l .inv .1) (c .before .shared-slice-known2 .given (l .i) .fits) in
-    (omega arith, rw r (stepByte-lt (l .r) _), rw r (guard-next s (l .r) (l .i) _ here (l .inv .2)))
+    let next = table-next _ s (l .r) _ (l .i) _ (c .before .before .before .before .before .pre) (l .inv .1) (omega arith) (c .before .shared-slice-known2 .given (l .i) .fits) (c .table-step .ensures) (l .inv .2) in
+    (omega arith, next .0, next .1)
 
 returns : tie.Need-returns Inv-loop μ-loop
 returns c = guard-end _ _ (c .before .loop .i) _ (c .loop-test .left) (c .before .loop .inv .2)
