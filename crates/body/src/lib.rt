@@ -1,38 +1,12 @@
-// The lines of a block and of a run of blocks, printed and counted.
+// The lines of a run of blocks, printed and counted.
 ghost use Prim.Native.Nat.{_*_};
 ghost use Rattle.guard.specs.Table.{Right};
 ghost use Rattle.judge.specs.Judge.{Run};
 ghost use Rattle.sheet.specs.Sheet.{Printed, Room};
-ghost use Rattle.body.specs.Body.{linesIn, blockLines};
+ghost use Rattle.body.specs.Body.{blockLines};
 use interval::Place;
 use interval::Rules;
 use sheet::Sheet;
-
-// Prints the lines of a block.
-fn print_block(t: &[u16; 256], r: Rules, p: Place, s: &[u8], out: &mut [u8], sheet: Sheet) -> Sheet
-    requires { ⌜ Right (now t) ⌝ }
-    requires { ⌜ Run r 1 p (now s) ⌝ }
-    requires { ⌜ Room sheet (r .intervals) ⌝ }
-    ensures { λ x. ⌜ Printed (linesIn r p (now (s .entry))) sheet (now (out .entry)) x (now (out .exit)) ⌝ }
-{
-    let size = r.size;
-    let escape = r.escape;
-    let skipped = interval::any_escapes(escape, size, r.intervals, s);
-    let mut left = r.intervals;
-    let mut here = p;
-    let mut number: u64 = 0;
-    let mut now = sheet;
-    let mut i: usize = 0;
-    while 0 < left {
-        let end = i + (size + 8);
-        now = sheet::print_interval(t, r, skipped, number, here, &s[i..end], out, now);
-        here = judge::next_interval(here);
-        number += 1;
-        i = end;
-        left -= 1;
-    }
-    now
-}
 
 // Prints the lines of `count` blocks.
 pub fn print_blocks(
@@ -57,7 +31,7 @@ pub fn print_blocks(
     let mut i: usize = 0;
     while 0 < left {
         let end = i + block;
-        now = print_block(t, r, here, &s[i..end], out, now);
+        now = paragraph::print_block(t, r, here, &s[i..end], out, now);
         here = judge::next_block(n, here);
         i = end;
         left -= 1;

@@ -48,7 +48,7 @@ use Rattle.transfer.specs.Transfer.{blocksOf, judgedOn, judged}
 use Rattle.transfer.proofs.Shapes.{moved-flat, whole-not, handed-parted, judged-none, judged-all}
 use Rattle.execute.specs.Lent.{lent, lengthsOf}
 use Rattle.execute.specs.Execute.{performed, executed}
-use Rattle.execute.proofs.Demands.{good-read-hands-out}
+use Rattle.demands.proofs.Demands.{good-read-hands-out}
 use Rattle.fresh.specs.Allowed.{Allowed}
 use Rattle.fresh.proofs.Runs.{field-at, zeros}
 use Rattle.fresh.proofs.Filled.{fresh-blocks, filled-facts, filled-fresh, filled-length}

@@ -44,7 +44,7 @@ step r b h hb =
     ap (times 8) (meet r b hb) ∙ times-xor 8 (r % 256) (bitXor (r / 256) b * 256)
     ∙ ap₂ bitXor (times-small 8 (r % 256) (omega arith)) (single (bitXor (r / 256) b) (xor-lt 8 (r / 256) b (omega arith) hb))
 
-pub table-step : (t : List ℕ) (r b : ℕ) → Right t → r < 65536 → b < 256 → tableStep t r b ≡ stepByte r b
+table-step : (t : List ℕ) (r b : ℕ) → Right t → r < 65536 → b < 256 → tableStep t r b ≡ stepByte r b
 unfolding tableStep
 table-step t r b right h hb =
     ap (bitXor (r % 256 * 256)) (right .entry (bitXor (r / 256) b) (xor-lt 8 (r / 256) b (omega arith) hb)) ∙ sym (step r b h hb)

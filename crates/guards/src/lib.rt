@@ -36,11 +36,8 @@ pub fn guards(data: &[u8], size: usize, out: &mut [u8]) -> Answer
     if size == 0 {
         return Answer::Refused(Reason::BufferLengthWrong);
     }
-    if data.len() % size != 0 {
-        return Answer::Refused(Reason::BufferLengthWrong);
-    }
     let count = data.len() / size;
-    if out.len() != count * 2 {
+    if !words::both(data.len() % size == 0, out.len() == count * 2) {
         return Answer::Refused(Reason::BufferLengthWrong);
     }
     let t = guard::table();

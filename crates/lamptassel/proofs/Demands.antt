@@ -12,7 +12,7 @@ use Rattle.answer.proofs.Demands.{good-is-zero, refused-leaves}
 use Rattle.segment.specs.declared.Description.{Description}
 use Rattle.execute.specs.Lent.{Lent}
 use Rattle.execute.specs.Execute.{executed}
-use Rattle.execute.proofs.Demands.{refused-leaves-all}
+use Rattle.demands.proofs.Demands.{refused-leaves-all}
 use Rattle.filling.specs.Fresh.{filled}
 use Rattle.stripe.specs.Stripe.{made, rebuilt, corrected}
 use Rattle.guards.specs.Guards.{guards}

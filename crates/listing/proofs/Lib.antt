@@ -1,5 +1,3 @@
 pub mod ListingLaws
-pub mod Demands
-pub mod States
+pub mod Most
 pub mod Coincide
-pub mod Indexed

@@ -1,5 +1,4 @@
 // Runs the cases of document 01, 'Both sides of the line', that are commands, and prints what comes of each.
-use answer::Answer;
 
 fn main() {
     reads();
@@ -71,7 +70,7 @@ fn write_of_type_2() {
         b"\x7f\x00\x00\x00\x00\x00\x00\x18\x00\x0b\x00\x00\x00\x00\x00\x00\x00\x00\x00\x00\xff\xff\xff\xff\x00\x00\x00\x00\x00\x00\x00\x01",
         &mut buffer,
     );
-    result_lines(
+    shown::result_lines(
         b"WRITE (32) of zero data, first tag FFFFFFFFh",
         a,
         &segment,
@@ -85,13 +84,5 @@ fn on_m(name: &[u8], command: &[u8], buffer: &mut [u8]) {
     let mut m =
         *b"\x00\x00\x00\x00\x00\x00\x00\x01\x8b\xb7\x00\x00\x00\x00\x00\x07\x00\x00\x00\x00\x00\x00\x00\x02\x9c\xd9\x00\x00\x00\x00\x00\x07\x00\x00\x00\x00\x00\x00\x00\x03\x00\x00\xff\xff\x00\x00\x00\x00";
     let a = execute::execute(d, &mut m, command, buffer);
-    result_lines(name, a, &m, buffer);
-}
-
-// What is asked, the answer's number, address and interval, and the lent bytes afterwards.
-fn result_lines(name: &[u8], a: Answer, segment: &[u8], buffer: &[u8]) {
-    io::write_all(1, name);
-    shown::answer_line(a);
-    shown::bytes_line(b"  segment ", segment);
-    shown::bytes_line(b"  buffer  ", buffer);
+    shown::result_lines(name, a, &m, buffer);
 }

@@ -12,6 +12,14 @@ pub fn answer_line(a: Answer) {
     io::write_all(1, b"\n");
 }
 
+// What is asked, the answer's number, address and interval, and the lent bytes afterwards.
+pub fn result_lines(name: &[u8], a: Answer, segment: &[u8], buffer: &[u8]) {
+    io::write_all(1, name);
+    answer_line(a);
+    bytes_line(b"  segment ", segment);
+    bytes_line(b"  buffer  ", buffer);
+}
+
 // A name, and bytes in hexadecimal.
 pub fn bytes_line(name: &[u8], bytes: &[u8]) {
     io::write_all(1, name);
@@ -22,11 +30,7 @@ pub fn bytes_line(name: &[u8], bytes: &[u8]) {
 fn hexadecimal(bytes: &[u8]) {
     let mut i: usize = 0;
     while i < bytes.len() {
-        io::print_hex(1, wide(bytes[i]), 2);
+        io::print_hex(1, bytes[i] as u64, 2);
         i += 1;
     }
-}
-
-fn wide(b: u8) -> u64 {
-    b as u64
 }

@@ -11,6 +11,7 @@ use native.Mathlib.Omega.{arith}
 use lib.Bits.{bitXor, xor-zero-l, xor-self}
 use lib.Dec.{T-not, eqb, eqb→eq}
 use lib.ListN.{length, drop, length-drop}
+use Rattle.words.proofs.Choice.{same}
 use Rattle.words.specs.Parts.{Bytes, put}
 use Rattle.words.specs.Xor.{xors}
 use Rattle.words.proofs.BitXor.{xor-cancel}
@@ -32,7 +33,6 @@ use Rattle.parity.proofs.Sums.{by-side, member-part, parity-part, any-part, all
 use Rattle.stripe.specs.Stripe.{made, rebuilt, corrected}
 use Rattle.stripe.specs.Fit.{Making, Rebuilding, Correcting}
 use Rattle.stripe.specs.Error.{errorAt, memberError, errorIn, xorOver}
-use Rattle.stripe.proofs.Ladder.{same}
 use Rattle.stripe.proofs.Fits.{not-zero, make-is, make-only, rebuild-is, rebuild-only, correct-is, correct-only}
 use Rattle.stripe.proofs.Errors.{error-xors, over-same, over-zero, over-one, of-parity}
 

@@ -7,7 +7,7 @@ use Prim.Native.Nat.{ℕ, _+_, _*_, _≤_}
 use native.Mathlib.Omega.{arith}
 use lib.Dec.{T, eqb, leb, leb→le, le→leb, eqb→eq}
 use lib.ListN.{length}
-use Rattle.words.proofs.Choice.{and-true, and-left, and-right}
+use Rattle.words.proofs.Choice.{and-true, and-left, and-right, and-assoc, same, equal, unequal}
 use Rattle.words.specs.Xor.{xors}
 use Rattle.answer.specs.Answer.{isGood}
 use Rattle.answer.specs.Outcome.{outcome, leaving}
@@ -21,7 +21,7 @@ use Rattle.parity.specs.Parity.{xorParts, parityOf, rebuiltOf, correctedOf}
 use Rattle.parity.specs.Stretch.{joined}
 use Rattle.stripe.specs.Stripe.{stripeRules, inRange, made, rebuilt, corrected}
 use Rattle.stripe.specs.Fit.{Making, Rebuilding, Correcting}
-use Rattle.stripe.proofs.Ladder.{range-facts, range-true, same, equal, unequal, equal-three, unequal-three, rules-good, rules-bad, rules-facts, passed, stopped}
+use Rattle.stripe.proofs.Ladder.{range-facts, lost-facts, range-true, equal-three, unequal-three, rules-good, rules-bad, rules-facts, passed, stopped}
 
 good-is : (rule : Answer) (old new : List ℕ) → rule ≡ answers.Good → leaving rule old new ≡ outcome answers.Good new
 good-is rule old new e = sym (leaves rule old new e refl)
@@ -118,44 +118,39 @@ module _ (d : Description) (k lost : ℕ) (s out : List ℕ) where
   unfolding rebuilt
   rebuild-only g = let f = rules-facts d _ (ap isGood g) in rebuilding (f .0) (f .1 .0) (f .1 .1)
 
-  module _ (a : Answer) (g : Bool) (e : a ≡ stripeRules d (inRange k)) (t : g ≡ isGood a) where
+  module _ (a : Answer) (g : Bool) (e : a ≡ stripeRules d (inRange k && leb lost k)) (t : g ≡ isGood a) where
     pub rebuild-stopped : not g ≡ true → outcome a out ≡ rebuilt d k lost s out
     unfolding rebuilt
-    rebuild-stopped = stopped d (inRange k) a g e t _ out _
+    rebuild-stopped n = rw (← and-assoc (inRange k) (leb lost k) _) (stopped d (inRange k && leb lost k) a g e t _ out _ n)
 
-    module _ (n : not g ≡ false) where
-      pub rebuild-refused : (Rebuilding d k lost s out → ⊥) → outcome (answers.Refused reasons.StripeShapeBad) out ≡ rebuilt d k lost s out
+    module _ (long : ℕ) (l : long ≡ lengthOf d) (n : not g ≡ false) where
+      pub rebuild-unfit : (b : Bool) → b ≡ (eqb (length s) ((k + 1) * long) && eqb (length out) long) → not b ≡ true → outcome (answers.Refused reasons.StripeShapeBad) out ≡ rebuilt d k lost s out
       unfolding rebuilt
-      rebuild-refused h =
-          let segment = passed d (inRange k) a g e t n .0 in
-          refuses _ out _ (rules-bad d _ segment (λ typed shaped. h (rebuilding segment typed shaped)))
+      rebuild-unfit b asked f =
+          let h = unequal (length s) ((k + 1) * long) (length out) long b asked f in
+          let segment = passed d (inRange k && leb lost k) a g e t n .0 in
+          refuses _ out _ (rules-bad d _ segment (λ typed shaped. let m = rebuilding segment typed shaped in h (m .whole ∙ ap (λ (x : ℕ). (k + 1) * x) (sym l)) (m .room ∙ sym l)))
 
-      module _ (long : ℕ) (l : long ≡ lengthOf d) where
-        pub rebuild-unfit : (b : Bool) → b ≡ (eqb (length s) ((k + 1) * long) && eqb (length out) long) → not b ≡ true → outcome (answers.Refused reasons.StripeShapeBad) out ≡ rebuilt d k lost s out
-        rebuild-unfit b asked f =
-            let h = unequal (length s) ((k + 1) * long) (length out) long b asked f in
-            rebuild-refused (λ m. h (m .whole ∙ ap (λ (x : ℕ). (k + 1) * x) (sym l)) (m .room ∙ sym l))
-
-        pub rebuild-good : (b : Bool) → b ≡ (eqb (length s) ((k + 1) * long) && eqb (length out) long) → not b ≡ false
-            → (new : List ℕ) → lost ≤ k → new ≡ rebuiltOf (length out) k lost s → outcome answers.Good new ≡ rebuilt d k lost s out
-        rebuild-good b asked f new among is =
-            let two = equal (length s) ((k + 1) * long) (length out) long b asked f in
-            let whole = two .0 in
-            let room = two .1 in
-            let p = passed d (inRange k) a g e t n in
-            let count = range-facts k (p .1 .1) in
-            ap (outcome answers.Good) (is ∙ ap (λ (x : ℕ). rebuiltOf x k lost s) (room ∙ l))
-            ∙ sym
-            (rebuild-is
-            (record {
-              segment = p .0;
-              typed = some-type (d .kind) (p .1 .0);
-              some = count .0;
-              few = count .1;
-              among = among;
-              whole = whole ∙ ap (λ (x : ℕ). (k + 1) * x) l;
-              room = room ∙ l;
-            }))
+      pub rebuild-good : (b : Bool) → b ≡ (eqb (length s) ((k + 1) * long) && eqb (length out) long) → not b ≡ false
+          → (new : List ℕ) → new ≡ rebuiltOf (length out) k lost s → outcome answers.Good new ≡ rebuilt d k lost s out
+      rebuild-good b asked f new is =
+          let two = equal (length s) ((k + 1) * long) (length out) long b asked f in
+          let whole = two .0 in
+          let room = two .1 in
+          let p = passed d (inRange k && leb lost k) a g e t n in
+          let numbers = lost-facts k lost (p .1 .1) in
+          ap (outcome answers.Good) (is ∙ ap (λ (x : ℕ). rebuiltOf x k lost s) (room ∙ l))
+          ∙ sym
+          (rebuild-is
+          (record {
+            segment = p .0;
+            typed = some-type (d .kind) (p .1 .0);
+            some = numbers .0;
+            few = numbers .1;
+            among = numbers .2;
+            whole = whole ∙ ap (λ (x : ℕ). (k + 1) * x) l;
+            room = room ∙ l;
+          }))
 
 -- ---- correcting
 module _ (d : Description) (old new parity : List ℕ) where

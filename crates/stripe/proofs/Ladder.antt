@@ -5,8 +5,8 @@ use mathlib.Core.Bool.{Bool, true, false, not, _&&_, cond, true≢false}
 use Prim.Native.Nat.{ℕ, _*_, _≤_}
 use native.Mathlib.Nat.{mul-le-mul}
 use borrow.Author.Tests.{not-false}
-use lib.Dec.{T, T-not, not-T, eqb, leb, leb→le, le→leb, eqb→eq, eqb-refl}
-use Rattle.words.proofs.Choice.{and-true, and-left, and-right}
+use lib.Dec.{T, T-not, not-T, eqb, leb, leb→le, le→leb, eqb→eq}
+use Rattle.words.proofs.Choice.{and-true, and-left, and-right, is-true, same, equal}
 use Rattle.answer.specs.Answer.{isGood, refusedIf}
 use Rattle.answer.specs.Outcome.{outcome, leaving}
 use Rattle.answer.specs.declared.Answer.{Answer}
@@ -29,6 +29,11 @@ pub range-facts : (k : ℕ) → T (inRange k) → (1 ≤ k) × (k ≤ 16)
 unfolding inRange
 range-facts k t = (leb→le 1 k (and-left (leb 1 k) _ t), leb→le k 16 (and-right (leb 1 k) _ t))
 
+pub lost-facts : (k lost : ℕ) → T (inRange k && leb lost k) → (1 ≤ k) × (k ≤ 16) × (lost ≤ k)
+lost-facts k lost t =
+    let range = range-facts k (and-left (inRange k) (leb lost k) t) in
+    (range .0, range .1, leb→le lost k (and-right (inRange k) (leb lost k) t))
+
 pub range-true : (k : ℕ) → 1 ≤ k → k ≤ 16 → T (inRange k)
 unfolding inRange
 range-true k l h = and-true (leb 1 k) (leb k 16) (le→leb 1 k l) (le→leb k 16 h)
@@ -36,24 +41,6 @@ range-true k l h = and-true (leb 1 k) (leb k 16) (le→leb 1 k l) (le→leb k 16
 -- what is as long as k parts, and what is as long as one
 parts-long : (k : ℕ) {n long one : ℕ} → n ≡ k * long → one ≡ long → k * one ≡ n
 parts-long k e h = ap (λ (l : ℕ). k * l) h ∙ sym e
-
-pub same : (a b : ℕ) → a ≡ b → T (eqb a b)
-same a b e = rw e (eqb-refl b)
-
-is-true : (b : Bool) → T b → b ≡ true
-is-true true t = refl
-is-true false t = absurd t
-
--- two tests that were asked at once
-pub equal : (a x b y : ℕ) (r : Bool) → r ≡ (eqb a x && eqb b y) → not r ≡ false → (a ≡ x) × (b ≡ y)
-equal a x b y r e n =
-    let t : T (eqb a x && eqb b y) = rw (← e, not-false r n) tt in
-    (eqb→eq a x (and-left (eqb a x) (eqb b y) t), eqb→eq b y (and-right (eqb a x) (eqb b y) t))
-
-pub unequal : (a x b y : ℕ) (r : Bool) → r ≡ (eqb a x && eqb b y) → not r ≡ true → a ≡ x → b ≡ y → ⊥
-unequal a x b y r e n p q =
-    let all : r ≡ true = e ∙ is-true _ (and-true (eqb a x) (eqb b y) (same a x p) (same b y q)) in
-    true≢false (sym n ∙ ap not all)
 
 pub parts-told : (k n long one : ℕ) (r : Bool) → r ≡ (eqb n (k * long) && eqb one long) → not r ≡ false → k * one ≡ n
 parts-told k n long one r e f = let two = equal n (k * long) one long r e f in parts-long k (two .0) (two .1)

@@ -45,12 +45,9 @@ pub fn make(d: Description, k: u64, members: &[u8], out: &mut [u8]) -> Answer
 pub fn rebuild(d: Description, k: u64, lost: u64, parts: &[u8], out: &mut [u8]) -> Answer
     ensures { λ r. ⌜ outcome r (now (out .exit)) ≡ rebuilt d k lost (now (parts .entry)) (now (out .entry)) ⌝ }
 {
-    let a = stripe_rules(d, in_range(k));
+    let a = stripe_rules(d, words::both(in_range(k), lost <= k));
     if !answer::is_good(a) {
         return a;
-    }
-    if k < lost {
-        return Answer::Refused(Reason::StripeShapeBad);
     }
     let count = k as usize;
     let long = segment::length(d);

@@ -25,15 +25,10 @@ fn guards() {
 // What the data is, its guard through the table, its guard by long division.
 fn guard_line(name: &[u8], data: &[u8]) {
     io::write_all(1, name);
-    word(guard::guard_by_table(data));
+    io::print_hex(1, guard::guard_by_table(data) as u64, 4);
     io::write_all(1, b" ");
-    word(guard::guard_by_division(data));
+    io::print_hex(1, guard::guard_by_division(data) as u64, 4);
     io::write_all(1, b"\n");
-}
-
-// Four hexadecimal digits.
-fn word(n: u16) {
-    io::print_hex(1, n as u64, 4);
 }
 
 // Members: M's first block, and one whose reference tag is 7 too.

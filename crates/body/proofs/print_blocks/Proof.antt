@@ -17,8 +17,10 @@ use Rattle.lines.specs.declared.Line.{Line}
 use Rattle.sheet.specs.declared.Sheet.{Sheet}
 use Rattle.sheet.specs.Sheet.{Printed, Room}
 use Rattle.sheet.proofs.SheetLaws.{printed-none, printed-then, printed-as, room-next, room-less}
-use Rattle.body.specs.Body.{linesIn, blockLines}
-use Rattle.body.proofs.BlockLaws.{block-turn, own-block-lines, blocks-none, block-length}
+use Rattle.paragraph.specs.Paragraph.{linesIn}
+use Rattle.paragraph.proofs.ParagraphLaws.{own-block-lines, block-length}
+use Rattle.body.specs.Body.{blockLines}
+use Rattle.body.proofs.BlockLaws.{block-turn, blocks-none}
 use borrow.Author.Needs.{needs}
 use Rattle.body.proofs.print_blocks.Statement.{statement}
 use Rattle.body.proofs.print_blocks.Tie as tie

@@ -1,4 +1,4 @@
--- `guards::guards`: each refusal denies one of the three facts of a fit, and the last return has them all.
+-- `guards::guards`: each refusal denies one of the facts of a fit, and the last return has them all.
 -- Assumes nothing.
 use mathlib.Core.Path.{_≡_, sym, ap, _∙_}
 use mathlib.Core.List.{List}
@@ -7,7 +7,7 @@ use native.Mathlib.Nat.{div-add-mod', div-le-self, add-zero}
 use native.Mathlib.Omega.{arith}
 use lib.Dec.{T, ltb, eqb, ltb→lt, eqb→eq, lt→ltb, eqb-refl}
 use lib.ListN.{length}
-use Rattle.words.proofs.Choice.{and-true, and-left, and-right}
+use Rattle.words.proofs.Choice.{and-true, and-left, and-right, equal, unequal}
 use Rattle.answer.specs.Outcome.{outcome}
 use Rattle.answer.specs.declared.Answer.the-variants as answers
 use Rattle.answer.specs.declared.Reason.the-variants as reasons
@@ -55,23 +55,24 @@ all n size e = sym (add-zero (n / size * size)) ∙ ap (λ (r : ℕ). n / size *
 returns : tie.Need-returns
 returns c = refused _ _ _ (λ f. omega (arith, f .some))
 
+mul-both : tie.Need-mul-both
+mul-both c = omega (arith, div-le-self (length (c .before .before .before .args .«data» .now)) (c .before .before .before .args .size), c .before .before .before .good)
+
 returns-2 : tie.Need-returns-2
-returns-2 c = refused _ _ _ (λ f. c .if2 .taken (f .whole))
-
-mul-if3 : tie.Need-mul-if3
-mul-if3 c = omega (arith, div-le-self (length (c .before .before .before .before .args .«data» .now)) (c .before .before .before .before .args .size), c .before .before .before .before .good)
-
-returns-3 : tie.Need-returns-3
-returns-3 c = refused _ _ _ (λ f. c .if3 .taken (f .room))
+returns-2 c = refused _ _ _ (λ f. unequal _ _ _ _ _ (c .before .both .ensures) (c .if2 .taken) (f .whole) (f .room))
 
 fill-guards-requires : tie.Need-fill-guards-requires
-fill-guards-requires c κs = (c .before .before .table .ensures, (all _ _ (c .before .before .before .before .if2 .left), sym (c .before .before .before .if3 .left)))
+fill-guards-requires c κs =
+    let test = c .before .before .before in
+    let two = equal _ _ _ _ _ (test .before .both .ensures) (test .if2 .left) in
+    (c .before .before .table .ensures, (all _ _ (two .0), sym (two .1)))
 
-returns-4 : tie.Need-returns-4
-returns-4 c =
-    let tests = c .before .before .before .before .before .before in
+returns-3 : tie.Need-returns-3
+returns-3 c =
+    let test = c .before .before .before .before .before .before in
+    let two = equal _ _ _ _ _ (test .before .both .ensures) (test .if2 .left) in
     good _ _ _ _
-    (record { some = omega arith; whole = tests .before .if2 .left; room = tests .if3 .left })
+    (record { some = omega arith; whole = two .0; room = two .1 })
     (c .before .before .fill-guards .ensures)
 
 pub guards-spec : {M : Type 1} → statement M
@@ -79,12 +80,11 @@ guards-spec =
     tie.close
     (tie.spec
     returns
-    (λ c. search needs)
+    (λ c. search needs) (λ c. search needs)
+    mul-both
+    (λ c κs. search needs)
     returns-2
-    (λ c. search needs)
-    mul-if3
-    returns-3
     (λ c κs. search needs)
     fill-guards-requires
     (λ c. search needs)
-    returns-4)
+    returns-3)

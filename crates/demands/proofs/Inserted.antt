@@ -37,14 +37,14 @@ use Rattle.words.proofs.Parts.{one-more, drop-more}
 use Rattle.rules.specs.Rules.{firstTag}
 use Rattle.marks.specs.Inserted.{insertedReference, marksOf}
 use Rattle.admission.specs.Ready.{Ready}
 use Rattle.execute.specs.Lent.{Lent, lengthsOf}
 use Rattle.transfer.specs.Transfer.{blocksOf, received}
 use Rattle.execute.specs.Execute.{executed}
-use Rattle.execute.specs.Inserted.{insertedReferenceAt, userDataAt, InsertedAt}
+use Rattle.demands.specs.Inserted.{insertedReferenceAt, userDataAt, InsertedAt}
 use Rattle.transfer.proofs.Shapes.{whole-not}
-use Rattle.execute.proofs.Accepted.{small-application, small-reference}
-use Rattle.execute.proofs.Stored.{enough, inserted}
-use Rattle.execute.proofs.Demands.{good-write-stores}
+use Rattle.demands.proofs.Accepted.{small-application, small-reference}
+use Rattle.demands.proofs.Stored.{enough, inserted}
+use Rattle.demands.proofs.Demands.{good-write-stores}
 
 -- ---- the piece at a place, and what lies behind it
 within : (j k P : ℕ) (s : List ℕ) → j < k → k * P ≤ length s → P ≤ length (drop (j * P) s)

@@ -47,16 +47,16 @@ use Rattle.admission.specs.declared.Admitted.the-variants.{Refused, Go}
 use Rattle.admission.specs.Admission.{admitted}
 use Rattle.admission.specs.Ready.{Ready}
 use Rattle.admission.proofs.Ready.{admitted-served, admitted-ready}
 use Rattle.execute.specs.Lent.{Lent, lent, lengthsOf}
 use Rattle.transfer.specs.Transfer.{blocksOf, judgedOn, judged, whole, handed, received}
 use Rattle.transfer.proofs.Shapes.{whole-code, whole-not, received-whole, judged-none, judged-all}
 use Rattle.execute.specs.Execute.{underCheck, overwritten, movedFor, moved, performed, executedAs, executed}
-use Rattle.execute.specs.Compared.{Alike, Beside, asRead}
-use Rattle.execute.specs.Checked.{FirstNamed, AllRight, WrongInterval}
-use Rattle.execute.proofs.Wrong.{side-good, side-wrong, interval-verdict}
-use Rattle.execute.proofs.Accepted.{inserted-accepted, received-accepted}
-use Rattle.execute.proofs.InOrder.{not-in-order-names-no-interval}
-use Rattle.execute.proofs.Stored.{enough, inserted, beside-itself, overwritten-beside, overwritten-there, handed-back, same-blocks}
+use Rattle.demands.specs.Compared.{Alike, Beside, asRead}
+use Rattle.demands.specs.Checked.{FirstNamed, AllRight, WrongInterval}
+use Rattle.demands.proofs.Wrong.{side-good, side-wrong, interval-verdict}
+use Rattle.demands.proofs.Accepted.{inserted-accepted, received-accepted}
+use Rattle.demands.proofs.InOrder.{not-in-order-names-no-interval}
+use Rattle.demands.proofs.Stored.{enough, inserted, beside-itself, overwritten-beside, overwritten-there, handed-back, same-blocks}
 
 -- the verdict on both sides of what is lent
 abbrev verdict : Description → Command → Lent → Answer

@@ -38,8 +38,8 @@ use Rattle.rules.specs.Rules.{columnsOf, applicationKnown, referenceKnown, firs
 use Rattle.marks.specs.Inserted.{insertedApplication, insertedReference, marksOf}
 use Rattle.sides.specs.declared.Side.the-variants.{Sent, Stored}
 use Rattle.rules.specs.Intervals.{placeAt, skipped, verdictAt}
-use Rattle.execute.specs.Compared.{asRead}
-use Rattle.execute.proofs.Wrong.{blocks-good}
+use Rattle.demands.specs.Compared.{asRead}
+use Rattle.demands.proofs.Wrong.{blocks-good}
 
 -- ---- pieces that are each judged good, one behind the other
 module _ {M : Type 0} (judge : Place → List ℕ → Answer) (next : Place → Place) (piece : M → List ℕ → List ℕ) (on : M → M) (P Q : ℕ) (F : Place → M → Type 0)

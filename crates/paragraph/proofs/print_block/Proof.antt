@@ -1,4 +1,4 @@
--- `body::print_block`: the lines that are printed, and those of the intervals that are left, make up the block's.
+-- `paragraph::print_block`: the lines that are printed, and those of the intervals that are left, make up the block's.
 -- Assumes nothing.
 use mathlib.Core.Path.{_≡_, sym, ap, _∙_}
 use mathlib.Core.Bool.{Bool}
@@ -18,11 +18,11 @@ use Rattle.sheet.specs.declared.Sheet.{Sheet}
 use Rattle.lines.specs.Lines.{lineOf}
 use Rattle.sheet.specs.Sheet.{Printed, Room}
 use Rattle.sheet.proofs.SheetLaws.{printed-none, printed-then, printed-as, room-next, room-less}
-use Rattle.body.specs.Body.{intervalLines, linesIn}
-use Rattle.body.proofs.BlockLaws.{interval-turn, own-line, intervals-none}
+use Rattle.paragraph.specs.Paragraph.{intervalLines, linesIn}
+use Rattle.paragraph.proofs.ParagraphLaws.{interval-turn, own-line, intervals-none}
 use borrow.Author.Needs.{needs}
-use Rattle.body.proofs.print_block.Statement.{statement}
-use Rattle.body.proofs.print_block.Tie as tie
+use Rattle.paragraph.proofs.print_block.Statement.{statement}
+use Rattle.paragraph.proofs.print_block.Tie as tie
 
 record Going (r : Rules) (k : Bool) (p : Place) (s : List ℕ) (t : Sheet) (out₀ out : List ℕ) (left : ℕ) (here : Place) (number : ℕ) (u : Sheet) (i : ℕ) : Type 0 where
   from : i + left * (r .size + 8) ≡ length s

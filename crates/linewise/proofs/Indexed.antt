@@ -32,13 +32,14 @@ use Rattle.lines.specs.declared.Line.{Line}
 use Rattle.lines.specs.declared.State.the-variants.{Skipped}
 use Rattle.lines.specs.Lines.{worded, stateOf, lineOf}
 use Rattle.sheet.specs.Sheet.{faulty}
-use Rattle.body.specs.Body.{intervalLines, linesIn, blockLines}
+use Rattle.paragraph.specs.Paragraph.{intervalLines, linesIn}
+use Rattle.body.specs.Body.{blockLines}
 use Rattle.contents.specs.Contents.{readAll, linesOf}
-use Rattle.listing.specs.Indexed.{fieldAt, escapedAt, stateAt, lineAt}
-use Rattle.body.proofs.BlockLaws.{block-length}
+use Rattle.linewise.specs.Indexed.{fieldAt, escapedAt, stateAt, lineAt}
+use Rattle.paragraph.proofs.ParagraphLaws.{block-length}
 use Rattle.contents.proofs.SegmentLaws.{lines-are}
-use Rattle.listing.proofs.States.{state-in-words}
-use Rattle.listing.proofs.Demands.{fault-interval, read-plain}
+use Rattle.linewise.proofs.States.{state-in-words}
+use Rattle.linewise.proofs.Demands.{fault-interval, read-plain}
 
 -- ---- the line of an interval of a block, and of k blocks; x is what a list that ends before it would give
 module _ (r : Rules) (x : Line) where

@@ -36,12 +36,12 @@ use Rattle.refusal.proofs.Rules.{room-moved}
 use Rattle.admission.specs.declared.Admitted.the-variants.{Go}
 use Rattle.admission.specs.Admission.{admitted}
 use Rattle.admission.proofs.Ready.{admitted-served, admitted-ready}
 use Rattle.execute.specs.Lent.{Lent, lent, lengthsOf}
 use Rattle.transfer.specs.Transfer.{blocksOf, judgedOn, judged, whole, handed}
 use Rattle.transfer.proofs.Shapes.{whole-not, handed-parted, received-whole, judged-none}
 use Rattle.execute.specs.Execute.{underCheck, performed, executed}
-use Rattle.execute.specs.Compared.{Beside}
-use Rattle.execute.proofs.Demands.{good-in-order, write-or-verify-leaves-buffer, good-write-keeps-other-blocks, good-write-stores, good-read-hands-out, good-exactly-when-all-right}
+use Rattle.demands.specs.Compared.{Beside}
+use Rattle.demands.proofs.Demands.{good-in-order, write-or-verify-leaves-buffer, good-write-keeps-other-blocks, good-write-stores, good-read-hands-out, good-exactly-when-all-right}
 
 -- ---- a transfer of no blocks
 none-of : (k b : Bool) (t : ℕ) → t ≡ 0 → cond k 0 (cond b t 0) ≡ 0

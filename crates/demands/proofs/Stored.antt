@@ -23,10 +23,10 @@ use Rattle.marks.specs.Inserted.{marksOf}
 use Rattle.refusal.specs.Refusal.{isVerify, movedOf}
 use Rattle.refusal.proofs.Rules.{room-moved}
 use Rattle.admission.specs.Ready.{Ready}
 use Rattle.execute.specs.Lent.{Lent, lengthsOf}
 use Rattle.transfer.specs.Transfer.{blocksOf, whole, handed, received}
 use Rattle.execute.specs.Execute.{overwritten}
-use Rattle.execute.specs.Compared.{Beside}
+use Rattle.demands.specs.Compared.{Beside}
 use Rattle.transfer.proofs.Shapes.{moved-intervals, moved-when-whole, parted, handed-whole, handed-parted, received-whole, received-parted}
 
 pub beside-itself : (d : Description) (c : Command) (s : List ℕ) → Beside d c s s

@@ -31,7 +31,7 @@ use Rattle.rules.specs.Rules.{rulesOf, startOf, firstTag}
 use Rattle.rules.specs.Intervals.{placeAt, skipped, verdictAt}
 use Rattle.rules.proofs.Places.{place-is}
 use Rattle.transfer.specs.Transfer.{judgedOn}
-use Rattle.execute.specs.Checked.{Names, FirstWrongInterval}
+use Rattle.demands.specs.Checked.{Names, FirstWrongInterval}
 
 -- ---- one interval
 abbrev inTurn : Place → Bool → Bool → Bool → Answer

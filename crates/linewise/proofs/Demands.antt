@@ -1,13 +1,12 @@
 -- What is asked of a listing: its last line counts its own lines; there is one line for each interval; no line is faulty
 -- exactly where judging the whole finds no fault (line by line: `Indexed`). Assumes nothing.
-use mathlib.Core.Path.{_≡_, refl, sym, ap, _∙_}
+use mathlib.Core.Path.{_≡_, refl, ap, _∙_}
 use mathlib.Core.Logic.{_↔_}
 use mathlib.Core.Bool.{Bool, true, false, _&&_, cond, true≢false}
 use mathlib.Core.List.{List, _++_}
-use Prim.Native.Nat.{ℕ, zero, suc, _+_, _*_, _≤_}
+use Prim.Native.Nat.{ℕ, zero, suc, _+_, _*_}
 use native.Mathlib.Omega.{arith}
-use lib.ListN.{length, drop, length-append, length-drop}
-use Rattle.answer.specs.Answer.{isGood}
+use lib.ListN.{length, drop}
 use Rattle.answer.specs.declared.Answer.the-variants as answers
 use Rattle.answer.specs.declared.Field.the-variants as fields
 use Rattle.segment.specs.declared.Description.{Description}
@@ -22,19 +21,16 @@ use Rattle.answer.proofs.Ladder.{orElse-good}
 use Rattle.command.specs.Sixteen.{sixteen}
 use Rattle.sides.specs.declared.Side.the-variants.{Stored}
 use Rattle.rules.specs.Rules.{columnsOf, applicationKnown, rulesOf, startOf}
-use Rattle.writing.proofs.Writing.{laid-length}
 use Rattle.lines.specs.Lines.{worded, stateOf, lineOf}
 use Rattle.sheet.specs.Sheet.{faulty, skips, countOf, linesText}
-use Rattle.body.specs.Body.{intervalLines, linesIn, blockLines}
-use Rattle.closing.specs.Closing.{numbersText, refusedText}
-use Rattle.records.specs.Record.{recordAnswer, describedBy, segmentIn}
+use Rattle.paragraph.specs.Paragraph.{intervalLines, linesIn}
+use Rattle.body.specs.Body.{blockLines}
+use Rattle.closing.specs.Closing.{numbersText}
 use Rattle.contents.specs.Contents.{readAll, linesOf}
-use Rattle.listing.specs.Listing.{headerText, totalText, listedText, listing, Listed}
-use Rattle.sheet.proofs.SheetLaws.{count-append, lines-most}
+use Rattle.listing.specs.Listing.{headerText, totalText, listedText}
+use Rattle.sheet.proofs.SheetLaws.{count-append}
 use Rattle.body.proofs.BlockLaws.{blocks-length}
-use Rattle.closing.proofs.ClosingLaws.{numbers-most, refused-most}
-use Rattle.records.proofs.RecordLaws.{record-whole}
-use Rattle.contents.proofs.SegmentLaws.{lines-none, lines-are, lines-length}
+use Rattle.contents.proofs.SegmentLaws.{lines-none, lines-are}
 
 -- ---- the last line's numbers are those of the lines that stand above it
 pub totals-count : (d : Description) (s : List ℕ)
@@ -115,30 +111,3 @@ pub faults-are-judged : (d : Description) (s : List ℕ) → Segment d → lengt
     → (judgeBlocks (rulesOf Stored d (readAll d)) (d .count) (startOf d (readAll d)) s ≡ answers.Good) ↔ (countOf faulty (linesOf d s) ≡ 0)
 faults-are-judged d s g long n =
     rw (lines-are d s g long n) (faults-blocks (rulesOf Stored d (readAll d)) (read-plain d) (d .count) (startOf d (readAll d)) s)
-
--- ---- a listing has at most 524,288 bytes
-listed-most : (d : Description) (s : List ℕ) → Segment d → lengthOf d ≡ length s → length s ≤ 65536 → length (listedText d s) ≤ 524288
-unfolding listedText totalText headerText
-listed-most d s g long h =
-    simp length-append
-    (omega (
-      arith,
-      lines-most (linesOf d s),
-      lines-length d s g long,
-      numbers-most (length (linesOf d s)) (countOf faulty (linesOf d s)) (countOf skips (linesOf d s)),
-    ))
-
-pub listing-most : (input : List ℕ) → length (listing input) ≤ 524288
-unfolding listing segmentIn
-listing-most input = by (isGood (recordAnswer input)) refl
-  where
-    by : (b : Bool) → isGood (recordAnswer input) ≡ b
-        → length (cond b (listedText (describedBy input) (segmentIn input)) (refusedText (recordAnswer input))) ≤ 524288
-    by true e =
-        let w = record-whole input e in
-        listed-most _ _ (w .segment) (sym (w .length)) (omega (arith, length-drop 19 input, w .frame .whole, w .frame .most))
-    by false e = omega (arith, refused-most (recordAnswer input))
-
--- so a buffer of that length takes any listing in full
-pub listed-fits : {input out left : List ℕ} {r : ℕ} → Listed input out r left → 524288 ≡ length out → r ≤ length left
-listed-fits {input} {out} p h = omega (arith, p .count, listing-most input, ap length (p .text), laid-length 0 (listing input) out)

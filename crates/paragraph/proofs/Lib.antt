@@ -1,0 +1,2 @@
+pub mod ParagraphLaws
+pub mod Coincide
