@@ -3,17 +3,16 @@
 use mathlib.Core.Path.{_≡_, refl, sym, ap, _∙_}
 use mathlib.Core.Bool.{true}
 use mathlib.Core.List.{List}
-use Prim.Native.Nat.{ℕ, _+_, _*_, _-_, _≤_, _<_}
+use Prim.Native.Nat.{ℕ, _+_, _*_, _-_, _≤_}
 use native.Mathlib.Nat.{mul-le-mul, mul-le-mul-right, add-mul, mul-assoc}
 use native.Mathlib.Omega.{arith}
-use borrow.Author.Tests.{lt-ltb, le-ltb, ltb-false}
+use borrow.Author.Tests.{le-ltb, ltb-false}
 use lib.Dec.{ltb}
 use lib.ListN.{drop}
 use lib.Seq.{drop-drop}
 use Rattle.words.proofs.Choice.{or-none}
 use Rattle.answer.specs.Answer.{isGood}
 use Rattle.answer.specs.declared.Answer.the-variants as answers
-use Rattle.answer.specs.declared.Reason.the-variants as reasons
 use Rattle.answer.proofs.Ladder.{not-refused}
 use Rattle.segment.specs.declared.Description.{Description}
 use Rattle.segment.specs.Segment.{Segment, intervalsOf, sizeOf, storedOf, lengthOf}
@@ -22,14 +21,6 @@ use Rattle.segment.proofs.Laws.{sizes, stored-intervals}
 
 module _ (d : Description) (address count : ℕ) where
   -- ---- the address: whole numbers, no wrap
-  pub below : address < d .first → rangeRule d address count ≡ answers.Refused reasons.AddressOutOfRange
-  unfolding rangeRule
-  below h = rw (lt-ltb address (d .first) h)
-
-  pub above : d .first ≤ address → d .first + d .count < address + count → rangeRule d address count ≡ answers.Refused reasons.AddressOutOfRange
-  unfolding rangeRule
-  above h l = rw (le-ltb address (d .first) h, lt-ltb (d .first + d .count) (address + count) l)
-
   pub inside : d .first ≤ address → address + count ≤ d .first + d .count → rangeRule d address count ≡ answers.Good
   unfolding rangeRule
   inside h l = rw (le-ltb address (d .first) h, le-ltb (d .first + d .count) (address + count) l)

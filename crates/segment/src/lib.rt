@@ -39,14 +39,14 @@ pub fn described(
     }
 }
 
-// Whether an address and a count add up to at most 2^63, as whole numbers.
-fn ends(first: u64, count: u64) -> bool
-    ensures { λ r. ⌜ r ≡ leb (first + count) (2 ^ 63) ⌝ }
+// Whether so many blocks from an address on end at `end` or before it, as whole numbers.
+fn ends(address: u64, count: u64, end: u64) -> bool
+    ensures { λ r. ⌜ r ≡ leb (address + count) end ⌝ }
 {
-    if 0x8000_0000_0000_0000 < count {
+    if end < count {
         return false;
     }
-    first <= 0x8000_0000_0000_0000 - count
+    address <= end - count
 }
 
 // Whether the numbers describe a segment.
@@ -56,10 +56,8 @@ fn is_segment(d: Description) -> bool
     let bits = words::both(d.kind <= 3, d.ato <= 1);
     let block = words::both(8 <= d.block, words::both(d.block <= 4096, d.block % 8 == 0));
     let power = words::both(d.exponent <= 3, words::either(d.exponent == 0, 2 <= d.kind));
-    let count = words::both(
-        1 <= d.count,
-        words::both(d.count <= 65536, ends(d.first, d.count)),
-    );
+    let end = ends(d.first, d.count, 0x8000_0000_0000_0000);
+    let count = words::both(1 <= d.count, words::both(d.count <= 65536, end));
     words::both(words::both(bits, block), words::both(power, count))
 }
 
@@ -121,16 +119,8 @@ pub fn range_rule(d: Description, address: u64, count: u64) -> Answer
     requires { ⌜ Segment d ⌝ }
     ensures { λ r. ⌜ r ≡ rangeRule d address count ⌝ }
 {
-    if address < d.first {
-        return Answer::Refused(Reason::AddressOutOfRange);
-    }
-    if d.first + d.count < address {
-        return Answer::Refused(Reason::AddressOutOfRange);
-    }
-    if d.first + d.count - address < count {
-        return Answer::Refused(Reason::AddressOutOfRange);
-    }
-    Answer::Good
+    let outside = words::either(address < d.first, !ends(address, count, d.first + d.count));
+    answer::refused_if(outside, Reason::AddressOutOfRange)
 }
 
 // Where the block of an address begins in the segment.

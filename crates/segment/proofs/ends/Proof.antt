@@ -1,4 +1,4 @@
--- `segment::ends`: compared by what is left to 2^63, so that nothing wraps.
+-- `segment::ends`: compared by what is left to the end, so that nothing wraps.
 -- Assumes nothing.
 use mathlib.Core.Path.{_≡_, refl}
 use mathlib.Core.Bool.{Bool, true, false}

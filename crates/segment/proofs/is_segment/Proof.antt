@@ -26,7 +26,7 @@ returns c =
     let block = power .before .before .before .before .before in
     let bits = block .before .before .before .before .before in
     grouped (bits .before .before .before .args .d) _ _ _ _ _ _ _ _ _ _ _ (bits .both .ensures) (block .before .both2 .ensures) (block .both3 .ensures)
-    (power .before .either .ensures) (power .both4 .ensures) (count .before .before .ends .ensures) (count .before .both5 .ensures) (count .both6 .ensures)
+    (power .before .either .ensures) (power .both4 .ensures) (count .before .before .before .before .ends .ensures) (count .before .both5 .ensures) (count .both6 .ensures)
     (c .before .before .both7 .ensures) (c .before .both8 .ensures) (c .both9 .ensures)
 
 pub is-segment-spec : {M : Type 1} → statement M

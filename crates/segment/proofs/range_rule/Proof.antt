@@ -1,30 +1,36 @@
--- `segment::range_rule`: the end is compared by what is left of the segment, so that nothing wraps.
+-- `segment::range_rule`: what ends past the segment does not end at its end or before it.
 -- Assumes nothing.
-use mathlib.Core.Path.{sym}
-use native.Mathlib.Omega.{arith}
-use Rattle.segment.proofs.Places.{below, above, inside}
+use mathlib.Core.Path.{_≡_, refl, _∙_}
+use mathlib.Core.Bool.{Bool, true, false, not, _||_}
+use Prim.Native.Nat.{ℕ, _+_}
+use lib.Dec.{leb, ltb}
+use borrow.Author.Tests.{le-ltb, lt-ltb, leb-true, leb-false}
 use borrow.Author.Needs.{needs}
+use Rattle.answer.specs.Answer.{refusedIf}
+use Rattle.answer.specs.declared.Answer.{Answer}
+use Rattle.answer.specs.declared.Reason.the-variants as reasons
+use Rattle.segment.specs.declared.Description.{Description}
+use Rattle.segment.specs.Places.{rangeRule}
 use Rattle.segment.proofs.range_rule.Statement.{statement}
 use Rattle.segment.proofs.range_rule.Tie as tie
 
+past : (m n : ℕ) → not (leb m n) ≡ ltb n m
+past m n = by (leb m n) refl
+  where
+    by : (b : Bool) → leb m n ≡ b → not b ≡ ltb n m
+    by true e = rw (le-ltb n m (leb-true m n e)) refl
+    by false e = rw (lt-ltb n m (leb-false m n e)) refl
+
+told : (d : Description) (address count : ℕ) (ends outside : Bool) (a : Answer) → ends ≡ leb (address + count) (d .first + d .count)
+    → outside ≡ (ltb address (d .first) || not ends) → a ≡ refusedIf outside reasons.AddressOutOfRange → a ≡ rangeRule d address count
+unfolding rangeRule
+told d address count ends outside a e₁ e₂ e₃ = e₃ ∙ rw (e₂, e₁, past (address + count) (d .first + d .count)) refl
+
 returns : tie.Need-returns
-returns c = sym (below _ _ _ (c .if1 .taken))
-
-add-if2 : tie.Need-add-if2
-add-if2 c = omega (arith, c .before .before .before .pre .end)
-
-returns-2 : tie.Need-returns-2
-returns-2 c = sym (above _ _ _ (c .before .before .if1 .left) (omega arith))
-
-add-if3 : tie.Need-add-if3
-add-if3 c = omega (arith, c .before .before .before .before .before .pre .end)
-
-returns-3 : tie.Need-returns-3
-returns-3 c = sym (above _ _ _ (c .before .before .before .before .if1 .left) (omega arith))
-
-returns-4 : tie.Need-returns-4
-returns-4 c = sym (inside _ _ _ (c .before .before .before .before .if1 .left) (omega arith))
+returns c =
+    told (c .before .before .before .before .before .args .d) _ _ _ _ _ (c .before .before .ends .ensures) (c .before .either .ensures)
+    (c .refused-if .ensures)
 
 pub range-rule-spec : {M : Type 1} → statement M
 range-rule-spec =
-    tie.close (tie.spec returns add-if2 returns-2 add-if3 (λ c. search needs) returns-3 returns-4)
+    tie.close (tie.spec (λ c. search needs) (λ c κs. search needs) (λ c κs. search needs) (λ c κs. search needs) returns)
