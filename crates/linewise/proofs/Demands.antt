@@ -27,7 +27,7 @@ use Rattle.paragraph.specs.Paragraph.{intervalLines, linesIn}
 use Rattle.body.specs.Body.{blockLines}
 use Rattle.closing.specs.Closing.{numbersText}
 use Rattle.contents.specs.Contents.{readAll, linesOf}
-use Rattle.listing.specs.Listing.{headerText, totalText, listedText}
+use Rattle.page.specs.Page.{headerText, totalText, listedText}
 use Rattle.sheet.proofs.SheetLaws.{count-append}
 use Rattle.body.proofs.BlockLaws.{blocks-length}
 use Rattle.contents.proofs.SegmentLaws.{lines-none, lines-are}

@@ -14,25 +14,15 @@ use Rattle.answer.specs.declared.Answer.{Answer}
 use Rattle.segment.specs.declared.Description.{Description}
 use Rattle.segment.specs.Segment.{Segment, lengthOf}
 use Rattle.writing.specs.Laid.{laid, Written}
-use Rattle.writing.proofs.Writing.{written-then}
-use Rattle.sheet.specs.declared.Sheet.{Sheet}
-use Rattle.sheet.specs.Sheet.{Printed}
-use Rattle.contents.specs.Contents.{linesOf}
-use Rattle.closing.specs.Closing.{numbersText, refusedText}
+use Rattle.closing.specs.Closing.{refusedText}
 use Rattle.records.specs.Record.{recordAnswer, describedBy, segmentIn}
-use Rattle.listing.specs.Listing.{headerText, totalText, listedText, listing, Listed}
-use Rattle.sheet.proofs.SheetLaws.{sheet}
+use Rattle.page.specs.Page.{listedText}
+use Rattle.listing.specs.Listing.{listing, Listed}
 use Rattle.records.proofs.RecordLaws.{Whole, record-whole}
 
 -- ---- all of it
 pub tail-whole : (n : ℕ) (s : List ℕ) → take (length s - n) (drop n s) ≡ drop n s
 tail-whole n s = take-all (length s - n) (drop n s) (rw length-drop (le-refl _))
-
-pub listed-written : (d : Description) (s : List ℕ) {at z : ℕ} {u : Sheet} {o oa ol oz : List ℕ} → Written headerText 0 o at oa → Printed (linesOf d s) (sheet at 0 0 0) oa u ol
-    → Written (numbersText (u .lines) (u .faults) (u .skipped)) (u .at) ol z oz → Written (listedText d s) 0 o z oz
-unfolding listedText totalText
-listed-written d s {u = u} wh wl wt =
-    written-then wh (written-then (wl .text) (rw (wl .lines, wl .faults, wl .skipped, zero-add, zero-add, zero-add) at wt))
 
 pub list-as : (input : List ℕ) {t : List ℕ} {z : ℕ} {o left : List ℕ} → t ≡ listing input → Written t 0 o z left → Listed input o z left
 list-as input {o = o} e w =

@@ -5,33 +5,18 @@ use mathlib.Core.Bool.{Bool, true, false, cond}
 use mathlib.Core.List.{List}
 use Prim.Native.Nat.{ℕ, _≤_}
 use native.Mathlib.Omega.{arith}
-use lib.ListN.{length, length-append, length-drop}
+use lib.ListN.{length, length-drop}
 use Rattle.answer.specs.Answer.{isGood}
-use Rattle.segment.specs.declared.Description.{Description}
-use Rattle.segment.specs.Segment.{Segment, lengthOf}
 use Rattle.writing.proofs.Writing.{laid-length}
-use Rattle.sheet.specs.Sheet.{faulty, skips, countOf}
 use Rattle.closing.specs.Closing.{refusedText}
 use Rattle.records.specs.Record.{recordAnswer, describedBy, segmentIn}
-use Rattle.contents.specs.Contents.{linesOf}
-use Rattle.listing.specs.Listing.{headerText, totalText, listedText, listing, Listed}
-use Rattle.sheet.proofs.SheetLaws.{lines-most}
-use Rattle.closing.proofs.ClosingLaws.{numbers-most, refused-most}
+use Rattle.page.specs.Page.{listedText}
+use Rattle.page.proofs.PageLaws.{listed-most}
+use Rattle.listing.specs.Listing.{listing, Listed}
+use Rattle.closing.proofs.ClosingLaws.{refused-most}
 use Rattle.records.proofs.RecordLaws.{record-whole}
-use Rattle.contents.proofs.SegmentLaws.{lines-length}
 
 -- ---- a listing has at most 524,288 bytes
-listed-most : (d : Description) (s : List ℕ) → Segment d → lengthOf d ≡ length s → length s ≤ 65536 → length (listedText d s) ≤ 524288
-unfolding listedText totalText headerText
-listed-most d s g long h =
-    simp length-append
-    (omega (
-      arith,
-      lines-most (linesOf d s),
-      lines-length d s g long,
-      numbers-most (length (linesOf d s)) (countOf faulty (linesOf d s)) (countOf skips (linesOf d s)),
-    ))
-
 pub listing-most : (input : List ℕ) → length (listing input) ≤ 524288
 unfolding listing segmentIn
 listing-most input = by (isGood (recordAnswer input)) refl

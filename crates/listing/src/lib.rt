@@ -1,34 +1,5 @@
 // A record to the bytes of its listing.
-ghost use mathlib.Core.Path.{_≡_};
-ghost use Prim.Native.Nat.{_≤_};
-ghost use lib.ListN.{length};
-ghost use Rattle.segment.specs.Segment.{Segment, lengthOf};
-ghost use Rattle.writing.specs.Laid.{Written};
-ghost use Rattle.listing.specs.Listing.{listedText, Listed};
-use segment::Description;
-use sheet::Sheet;
-
-// The listing of a segment: header, lines, last line.
-fn print_listed(d: Description, s: &[u8], out: &mut [u8]) -> usize
-    requires { ⌜ Segment d ⌝ }
-    requires { ⌜ lengthOf d ≡ length (now s) ⌝ }
-    requires { ⌜ length (now s) ≤ 65536 ⌝ }
-    ensures { λ r. ⌜ Written (listedText d (now (s .entry))) 0 (now (out .entry)) r (now (out .exit)) ⌝ }
-{
-    let at = writing::put_word(out, 0, b"lba interval guard app ref state\n");
-    let sheet = contents::print_segment(
-        d,
-        s,
-        out,
-        Sheet {
-            at,
-            lines: 0,
-            faults: 0,
-            skipped: 0,
-        },
-    );
-    closing::print_total(out, sheet)
-}
+ghost use Rattle.listing.specs.Listing.{Listed};
 
 // Writes the listing of a record to `out`: of its bytes, as many as there is room for. Hands back how many bytes the whole listing has.
 pub fn list(input: &[u8], out: &mut [u8]) -> usize
@@ -38,5 +9,5 @@ pub fn list(input: &[u8], out: &mut [u8]) -> usize
     if !answer::is_good(a) {
         return closing::print_refused(out, a);
     }
-    print_listed(records::described_by(input), &input[19..], out)
+    page::print_listed(records::described_by(input), &input[19..], out)
 }

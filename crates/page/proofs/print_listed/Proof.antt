@@ -1,4 +1,4 @@
--- `listing::print_listed`: header, lines and last line, one after another.
+-- `page::print_listed`: header, lines and last line, one after another.
 -- Assumes nothing.
 use mathlib.Core.Path.{refl}
 use native.Mathlib.Omega.{arith}
@@ -6,10 +6,10 @@ use lib.Dec.{lit≤}
 use Rattle.writing.proofs.Writing.{written-length}
 use Rattle.sheet.proofs.SheetLaws.{first-room}
 use Rattle.contents.proofs.SegmentLaws.{lines-end}
-use Rattle.listing.proofs.ListingLaws.{listed-written}
-use Rattle.listing.specs.Listing.{headerText}
-use Rattle.listing.proofs.print_listed.Statement.{statement}
-use Rattle.listing.proofs.print_listed.Tie as tie
+use Rattle.page.proofs.PageLaws.{listed-written}
+use Rattle.page.specs.Page.{headerText}
+use Rattle.page.proofs.print_listed.Statement.{statement}
+use Rattle.page.proofs.print_listed.Tie as tie
 
 put-word-requires : tie.Need-put-word-requires
 put-word-requires c κs = lit≤ tt
