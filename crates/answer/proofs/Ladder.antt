@@ -7,13 +7,14 @@ use borrow.Author.Tests.{not-true, not-false}
 use lib.Dec.{T}
 use Rattle.answer.specs.Answer.{isGood, orElse, refusedIf}
 use Rattle.answer.specs.declared.Answer.{Answer}
-use Rattle.answer.specs.declared.Answer.the-variants.{Good, Wrong, Refused}
+use Rattle.answer.specs.declared.Answer.the-variants.{Good, Wrong, BlockDiffers, Refused}
 use Rattle.answer.specs.declared.Reason.{Reason}
 
 -- an answer is the good one, or no good one
 pub good-or : (a : Answer) → (a ≡ Good) ⊎ (isGood a ≡ false)
 good-or Good = inl refl
 good-or (Wrong f a p) = inr refl
+good-or (BlockDiffers a) = inr refl
 good-or (Refused r) = inr refl
 
 pub not-both : (a : Answer) → a ≡ Good → isGood a ≡ false → ⊥
@@ -29,9 +30,16 @@ orElse-good a b =
     (λ w. rw w (λ e. absurd (not-both a e w), λ two. two .0))
     (good-or a)
 
+pub orElse-none : (a : Answer) → orElse a Good ≡ a
+orElse-none Good = refl
+orElse-none (Wrong f a p) = refl
+orElse-none (BlockDiffers a) = refl
+orElse-none (Refused r) = refl
+
 pub orElse-assoc : (a b c : Answer) → orElse a (orElse b c) ≡ orElse (orElse a b) c
 orElse-assoc Good b c = refl
 orElse-assoc (Wrong f a p) b c = refl
+orElse-assoc (BlockDiffers a) b c = refl
 orElse-assoc (Refused r) b c = refl
 
 -- `a` is what a rule's function answered, `g` whether that is good

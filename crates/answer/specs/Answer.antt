@@ -1,10 +1,10 @@
--- "Answer numbers": the table's number, sense, address and place for each answer.
+-- "Answer numbers": the table's number, sense, address and place for each answer; of document 02, its number 15.
 use Prim.Native.Nat.{ℕ}
 use mathlib.Core.Bool.{Bool, true, false, _&&_, _||_, cond}
 use mathlib.Core.List.{List, [], _∷_}
 use lib.Dec.{eqb, leb}
 use Rattle.answer.specs.declared.Answer.{Answer}
-use Rattle.answer.specs.declared.Answer.the-variants.{Good, Wrong, Refused}
+use Rattle.answer.specs.declared.Answer.the-variants.{Good, Wrong, BlockDiffers, Refused}
 use Rattle.answer.specs.declared.Field.{Field}
 use Rattle.answer.specs.declared.Field.the-variants.{Guard, Application, Reference}
 use Rattle.answer.specs.declared.Reason.{Reason}
@@ -29,6 +29,10 @@ fieldRow Guard = row 8 0x0B_10_01
 fieldRow Application = row 9 0x0B_10_02
 fieldRow Reference = row 10 0x0B_10_03
 
+-- document 02: "15 (0E/1D/00) .. with the address of the first differing block and place 0"
+abbrev pub differsRow : Row
+differsRow = row 15 0x0E_1D_00
+
 -- the other refusals, in the table's order
 abbrev pub reasonRow : Reason → Row
 reasonRow DescriptionBad = row 1 0
@@ -47,6 +51,7 @@ reasonRow TransferTooLarge = row 14 0
 abbrev pub rowOf : Answer → Row
 rowOf Good = goodRow
 rowOf (Wrong f a p) = fieldRow f
+rowOf (BlockDiffers a) = differsRow
 rowOf (Refused r) = reasonRow r
 
 abbrev pub numberOf : Answer → ℕ
@@ -55,25 +60,33 @@ numberOf a = rowOf a .number
 abbrev pub senseOf : Answer → ℕ
 senseOf a = rowOf a .sense
 
--- "Numbers 8 to 10 also give the block's address and the interval's place in the transfer, from 0; all others give 0 and 0."
+-- "Numbers 8 to 10 also give the block's address and the interval's place in the transfer, from 0; all others give 0 and 0.", and 15
+-- "the address of the first differing block and place 0"
 abbrev pub addressOf : Answer → ℕ
 addressOf Good = 0
 addressOf (Wrong f a p) = a
+addressOf (BlockDiffers a) = a
 addressOf (Refused r) = 0
 
 abbrev pub placeOf : Answer → ℕ
 placeOf Good = 0
 placeOf (Wrong f a p) = p
+placeOf (BlockDiffers a) = 0
 placeOf (Refused r) = 0
 
 abbrev pub isGood : Answer → Bool
 isGood Good = true
 isGood (Wrong f a p) = false
+isGood (BlockDiffers a) = false
 isGood (Refused r) = false
 
 -- "8, 9, 10 | guard, application, reference check failed"
 abbrev pub forProtection : Answer → Bool
 forProtection a = leb 8 (numberOf a) && leb (numberOf a) 10
+
+-- "15": a block differs
+abbrev pub forDifference : Answer → Bool
+forDifference a = eqb (numberOf a) 15
 
 -- a rule: the refusal where something holds
 abbrev pub refusedIf : Bool → Reason → Answer
@@ -90,7 +103,8 @@ table =
     ∷ reasonRow DescriptionBad ∷ reasonRow SegmentLengthWrong ∷ reasonRow CommandLengthWrong ∷ reasonRow BufferLengthWrong
     ∷ reasonRow OperationInvalid ∷ reasonRow FieldInvalid ∷ reasonRow AddressOutOfRange
     ∷ fieldRow Guard ∷ fieldRow Application ∷ fieldRow Reference
-    ∷ reasonRow StripeShapeBad ∷ reasonRow ParameterInvalid ∷ reasonRow ListingRecordBad ∷ reasonRow TransferTooLarge ∷ []
+    ∷ reasonRow StripeShapeBad ∷ reasonRow ParameterInvalid ∷ reasonRow ListingRecordBad ∷ reasonRow TransferTooLarge
+    ∷ differsRow ∷ []
 
 -- the sense in the row of a number; 0 for a number that is not in the table
 abbrev pub senseIn : List Row → ℕ → ℕ

@@ -1,4 +1,4 @@
-// The answers of document 01's table, and the numbers and senses of the paper.
+// The answers of document 01's table and of document 02, and the numbers and senses of the papers.
 ghost use mathlib.Core.Path.{_≡_};
 ghost use Rattle.answer.specs.Answer.{fieldRow, reasonRow, numberOf, addressOf, placeOf, isGood, refusedIf, senseNumbered};
 
@@ -28,6 +28,8 @@ pub enum Answer {
     Good,
     // the field whose check failed, the block's address and the interval's place in the transfer
     Wrong(Field, u64, u64),
+    // the address of the first block that is not the one sent
+    BlockDiffers(u64),
     Refused(Reason),
 }
 
@@ -66,17 +68,19 @@ pub fn number(a: Answer) -> u64
     match a {
         Answer::Good => 0,
         Answer::Wrong(f, _, _) => field_number(f),
+        Answer::BlockDiffers(_) => 15,
         Answer::Refused(r) => reason_number(r),
     }
 }
 
-// The address of the block that a check failed at; 0 for every other answer.
+// The address of the block that a check failed at, or that differs; 0 for every other answer.
 pub fn address(a: Answer) -> u64
     ensures { λ r. ⌜ r ≡ addressOf a ⌝ }
 {
     match a {
         Answer::Good => 0,
         Answer::Wrong(_, block, _) => block,
+        Answer::BlockDiffers(block) => block,
         Answer::Refused(_) => 0,
     }
 }
@@ -88,6 +92,7 @@ pub fn place(a: Answer) -> u64
     match a {
         Answer::Good => 0,
         Answer::Wrong(_, _, interval) => interval,
+        Answer::BlockDiffers(_) => 0,
         Answer::Refused(_) => 0,
     }
 }
@@ -98,6 +103,7 @@ pub fn is_good(a: Answer) -> bool
     match a {
         Answer::Good => true,
         Answer::Wrong(_, _, _) => false,
+        Answer::BlockDiffers(_) => false,
         Answer::Refused(_) => false,
     }
 }
@@ -124,6 +130,7 @@ pub fn sense_numbered(number: u64) -> u32
         9 => 0x0B_10_02,
         10 => 0x0B_10_03,
         12 => 0x05_26_00,
+        15 => 0x0E_1D_00,
         _ => 0,
     }
 }

@@ -1,4 +1,4 @@
--- "Both sides of the line": the starred cases of document 01, in one table.
+-- "Both sides of the line": the starred cases of document 01, and cases of document 02's "Compare while verifying", in one table.
 use Prim.Native.Nat.{ℕ, zero, suc, _-_}
 use mathlib.Core.List.{List, [], _∷_, _++_, map}
 use lib.ListN.{replicate}
@@ -126,6 +126,49 @@ onSegments =
     })
     ∷ []
 
+-- "Compare while verifying", on M: VERIFY (10) with byte-check bits 01b (02h in the protect byte). The block at 8 has a wrong reference
+-- tag; the one at 9 has the escape, and a wrong guard
+abbrev rightSecond : List ℕ
+rightSecond = bytes 16 0x0000000000000002_9CD9_0000_00000008
+
+abbrev user : ℕ → List ℕ
+user = bytes 8
+
+unfoldable pub comparing : List Case
+comparing =
+    -- "With 000 the stored intervals are checked as today and then user data is compared": the same, another
+    onM 0x2F_02_00000007_00_0001_00 (user 0x01) (answered 0 0 0 M (user 0x01))
+    ∷ onM 0x2F_02_00000007_00_0001_00 (user 0x03) (answered 15 7 0 M (user 0x03))
+    -- "after every interval check": the wrong reference tag at 8 is named, not the difference at 7 before it
+    ∷ onM 0x2F_02_00000007_00_0002_00 (user 0x03 ++ user 0x02) (answered 10 8 1 M (user 0x03 ++ user 0x02))
+    -- a block that has the escape is compared too
+    ∷ onM 0x2F_02_00000009_00_0001_00 (user 0x03) (answered 0 0 0 M (user 0x03))
+    ∷ onM 0x2F_02_00000009_00_0001_00 (user 0x83) (answered 15 9 0 M (user 0x83))
+    -- "With another code the incoming intervals are checked as for WRITE": code 001, the block at 9 as it is stored has no escape there
+    ∷ onM 0x2F_22_00000009_00_0001_00 third (answered 8 9 0 M third)
+    -- "the stored ones are not, and then all S bytes of each block are compared": of the block at 8 only the reference tag differs
+    ∷ onM 0x2F_22_00000008_00_0001_00 rightSecond (answered 15 8 0 M rightSecond)
+    -- code 011 checks nothing: all of M, and all but the last
+    ∷ onM 0x2F_62_00000007_00_0003_00 M (answered 0 0 0 M M)
+    ∷ onM 0x2F_62_00000007_00_0003_00 (first ++ second ++ second) (answered 15 9 0 M (first ++ second ++ second))
+    -- "the buffer holds T × B bytes for code 000"; T 0; "values 10b and 11b stay at 6"
+    ∷ onM 0x2F_02_00000007_00_0001_00 [] (answered 4 0 0 M [])
+    ∷ onM 0x2F_02_0000000A_00_0000_00 [] (answered 0 0 0 M [])
+    ∷ onM 0x2F_04_00000007_00_0001_00 [] (answered 6 0 0 M [])
+    ∷ onM 0x2F_06_00000007_00_0001_00 [] (answered 6 0 0 M [])
+    -- bits 00b are as before
+    ∷ onM 0x2F_20_00000007_00_0002_00 [] (answered 10 8 1 M [])
+    -- type 0, B 8, W 0, N 2: "In type 0 only the data is compared."
+    ∷ execute
+    (record {
+      description = described 0 8 0 0 2 0;
+      segment = user 0x01 ++ user 0x02;
+      command = bytes 10 0x2F_02_00000000_00_0002_00;
+      buffer = user 0x01 ++ user 0x03;
+      outcome = answered 15 1 0 (user 0x01 ++ user 0x02) (user 0x01 ++ user 0x03);
+    })
+    ∷ []
+
 -- "Members M's first block and 0000000000000002 9CD9 0000 00000007: parity 0000000000000003 176E 0000 00000000."
 unfoldable pub parityCase : ParityCase
 parityCase =
@@ -137,4 +180,4 @@ parityCase =
     }
 
 unfoldable pub cases : List Case
-cases = map guardOf vectors ++ onSegments ++ (parity parityCase ∷ [])
+cases = map guardOf vectors ++ onSegments ++ comparing ++ (parity parityCase ∷ [])

@@ -1,6 +1,7 @@
-// What a command asks for, by value; and what a 16-byte command with code 001 asks.
+// What a command asks for, by value; whether it compares; and what a 16-byte command with code 001 asks.
 ghost use mathlib.Core.Path.{_≡_};
 ghost use Rattle.command.specs.Sixteen.{sixteen};
+ghost use Rattle.command.specs.Compares.{compares};
 
 pub enum Operation {
     Read,
@@ -19,6 +20,18 @@ pub struct Command {
     pub tag: u32,
     pub application: u16,
     pub mask: u16,
+}
+
+// Whether what is stored is compared with what is sent: a VERIFY with byte-check bits 01b.
+pub fn compares(c: Command) -> bool
+    ensures { λ r. ⌜ r ≡ compares c ⌝ }
+{
+    let o = c.operation;
+    match o {
+        Operation::Read => false,
+        Operation::Write => false,
+        Operation::Verify => c.check == 0b01,
+    }
 }
 
 // What a 16-byte command with code 001 asks of `length` blocks from `address` on.

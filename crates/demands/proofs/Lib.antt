@@ -2,6 +2,9 @@ pub mod Stored
 pub mod Wrong
 pub mod Accepted
 pub mod InOrder
+pub mod Same
 pub mod Demands
 pub mod Moved
 pub mod Inserted
+pub mod Verifies
+pub mod Before

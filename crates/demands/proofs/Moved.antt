@@ -4,7 +4,7 @@ use mathlib.Core.Path.{_≡_, refl, sym, ap, ap₂, _∙_}
 use mathlib.Core.Bool.{Bool, true, false, not, _||_, cond}
 use mathlib.Core.List.{List, [], _++_}
 use Prim.Native.Nat.{ℕ, _+_, _*_, _<_}
-use native.Mathlib.Nat.{zero-mul, le-of-eq}
+use native.Mathlib.Nat.{zero-mul, le-of-eq, not-suc-le-zero}
 use native.Mathlib.Omega.{arith}
 use borrow.Author.Tests.{ne-eqb}
 use lib.Dec.{eqb}
@@ -31,16 +31,19 @@ use Rattle.sides.specs.declared.Side.the-variants.{Sent, Stored}
 use Rattle.sides.specs.Sides.{checksOn, checkedOn}
 use Rattle.sides.proofs.Laws.{checked-all}
 use Rattle.rules.specs.Intervals.{verdictAt}
-use Rattle.refusal.specs.Refusal.{isVerify, movedOf}
+use Rattle.command.specs.Compares.{isVerify}
+use Rattle.command.proofs.CommandLaws.{not-verify}
+use Rattle.refusal.specs.Refusal.{movedOf}
 use Rattle.refusal.proofs.Rules.{room-moved}
 use Rattle.admission.specs.declared.Admitted.the-variants.{Go}
 use Rattle.admission.specs.Admission.{admitted}
 use Rattle.admission.proofs.Ready.{admitted-served, admitted-ready}
 use Rattle.execute.specs.Lent.{Lent, lent, lengthsOf}
-use Rattle.transfer.specs.Transfer.{blocksOf, judgedOn, judged, whole, handed}
+use Rattle.transfer.specs.Transfer.{blocksOf, judgedOn, judged, compared, verdict, whole, handed}
 use Rattle.transfer.proofs.Shapes.{whole-not, handed-parted, received-whole, judged-none}
 use Rattle.execute.specs.Execute.{underCheck, performed, executed}
 use Rattle.demands.specs.Compared.{Beside}
+use Rattle.demands.proofs.Same.{all-same}
 use Rattle.demands.proofs.Demands.{good-in-order, write-or-verify-leaves-buffer, good-write-keeps-other-blocks, good-write-stores, good-read-hands-out, good-exactly-when-all-right}
 
 -- ---- a transfer of no blocks
@@ -92,9 +95,17 @@ module _ (d : Description) (c : Command) (none : c .length ≡ 0) where
     none-judged : (side : Side) → judgedOn side d c (underCheck side d c l) ≡ answers.Good
     none-judged side = judged-none side d c _ (checked-nothing side)
 
+    none-compared : compared d c (underCheck Sent d c l) (underCheck Stored d c l) ≡ answers.Good
+    none-compared = all-same d c l .1 (λ on j h. absurd (not-suc-le-zero (rw none at h)))
+
     none-good : done .answer ≡ answers.Good
-    unfolding executed performed judged
-    none-good = rw in-order (orElse-good (judgedOn Sent d c (underCheck Sent d c l)) _ .1 (none-judged Sent, none-judged Stored))
+    unfolding executed performed verdict judged
+    none-good =
+        rw in-order
+        (orElse-good (judged d c (underCheck Sent d c l) (underCheck Stored d c l)) _ .1 (
+          orElse-good (judgedOn Sent d c (underCheck Sent d c l)) _ .1 (none-judged Sent, none-judged Stored),
+          none-compared,
+        ))
 
     none-there : isVerify (c .operation) ≡ false → l .buffer ≡ []
     none-there v =
@@ -134,7 +145,7 @@ module _ (d : Description) (command : List ℕ) (l : Lent) (c : Command) (served
       × (executed d command l .left .buffer ≡ userData (sizeOf d) (c .length * intervalsOf d) (blocksOf d c (l .segment)))
   judged-before-taken-off bytes r zero fields = (
     rw (checked-all Stored d c fields (ap (λ (o : Operation). checksOn Stored o c) r)) at
-        (good-exactly-when-all-right d command l c bytes (good-in-order d command l c served (ap isGood good)) .0 good Stored),
+        (good-exactly-when-all-right d command l c bytes (good-in-order d command l c served (ap isGood good)) (not-verify c (ap isVerify r)) .0 good Stored),
     good-read-hands-out d command l c served r (ap isGood good)
         ∙ sym (handed-parted d c (blocksOf d c (l .segment)) _ (sizeOf d) (intervalsOf d) (whole-not d c fields zero) refl refl refl),
   )

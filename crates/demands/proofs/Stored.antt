@@ -20,7 +20,8 @@ use Rattle.insertion.specs.Insertion.{storedBlocks}
 use Rattle.insertion.proofs.Laws.{blocks-length, blocks-read}
 use Rattle.blocks.proofs.Places.{put-before, put-there, put-behind}
 use Rattle.marks.specs.Inserted.{marksOf}
-use Rattle.refusal.specs.Refusal.{isVerify, movedOf}
+use Rattle.command.specs.Compares.{isVerify}
+use Rattle.refusal.specs.Refusal.{movedOf}
 use Rattle.refusal.proofs.Rules.{room-moved}
 use Rattle.admission.specs.Ready.{Ready}
 use Rattle.execute.specs.Lent.{Lent, lengthsOf}

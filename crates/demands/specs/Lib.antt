@@ -1,3 +1,5 @@
 pub mod Checked
 pub mod Compared
 pub mod Inserted
+pub mod Different
+pub mod Document01

@@ -21,17 +21,17 @@ use Rattle.command.specs.declared.Command.{Command}
 use Rattle.command.specs.declared.Operation.{Operation}
 use Rattle.command.specs.declared.Operation.the-variants.{Read, Write, Verify}
 use Rattle.refusal.specs.declared.Lengths.{Lengths}
-use Rattle.refusal.specs.Refusal.{isVerify}
-use Rattle.refusal.proofs.Rules.{room-moved}
+use Rattle.command.specs.Compares.{isVerify}
+use Rattle.refusal.proofs.Rules.{room-moved, room-compared}
 use Rattle.sides.specs.declared.Side.the-variants.{Sent}
 use Rattle.sides.specs.Sides.{checksOn}
-use Rattle.sides.proofs.Laws.{checks-all}
+use Rattle.sides.proofs.Laws.{checks-all, as-write}
 use Rattle.admission.specs.declared.Admitted.the-variants.{Refused, Go}
 use Rattle.admission.specs.Admission.{admitted}
 use Rattle.admission.specs.Ready.{Ready}
 use Rattle.execute.specs.Lent.{Lent, lent, lengthsOf}
-use Rattle.transfer.specs.Transfer.{blocksOf, judged, handed, received}
-use Rattle.transfer.specs.Inner.{Shaped, Sided, Fitted}
+use Rattle.transfer.specs.Transfer.{blocksOf, verdict, handed, received}
+use Rattle.transfer.specs.Inner.{Shaped, Sided, Fitted, Paired}
 use Rattle.transfer.proofs.Shapes.{moved-span}
 use Rattle.execute.specs.Execute.{overwritten, movedFor, moved, performed, executed}
 
@@ -56,7 +56,13 @@ module _ {d : Description} {c : Command} {l : Lengths} (r : Ready d c l) where
       by : (o : Operation) → c .operation ≡ o → checksOn Sent o c ≡ true → l .buffer ≡ spanOf d (c .length)
       by Read e x = never x
       by Write e x = r .room ∙ room-moved d c (ap isVerify e) ∙ moved-span d c (r .described) (eqb-false (c .code) 0 (not-true _ x))
-      by Verify e x = never x
+      by Verify e x =
+          let w = as-write c x in
+          r .room ∙ room-compared d c (w .comparing) ∙ moved-span d c (r .described) (w .fields)
+
+  -- where blocks are compared, as many bytes are sent as a WRITE of them would bring
+  pub paired : (n : ℕ) → n ≡ spanOf d (c .length) → Paired d c (l .buffer) n
+  paired n e on = (record { room = r .room ∙ room-compared d c on; plain = r .plain }, e)
 
   pub part : (at end : ℕ) (segment : List ℕ) → length segment ≡ l .segment → at ≡ offsetOf d (c .address) → end ≡ at + spanOf d (c .length)
       → length (take (end - at) (drop at segment)) ≡ spanOf d (c .length)
@@ -94,19 +100,19 @@ module _ (d : Description) (c : Command) (segment buffer : List ℕ) where
   pub verify-moved : c .operation ≡ Verify → lent segment buffer ≡ moved d c (lent segment buffer)
   verify-moved o = by-operation Verify o _ refl
 
--- ---- judged, and then moved
+-- ---- judged and compared, and then moved
 module _ (d : Description) (c : Command) (segment buffer stored : List ℕ) (a : Answer) (g : Bool) (s : stored ≡ blocksOf d c segment)
-    (e : a ≡ judged d c buffer stored) (t : g ≡ isGood a) where
-  judged-is : a ≡ judged d c buffer (blocksOf d c segment)
-  judged-is = e ∙ ap (judged d c buffer) s
+    (e : a ≡ verdict d c buffer stored) (t : g ≡ isGood a) where
+  verdict-is : a ≡ verdict d c buffer (blocksOf d c segment)
+  verdict-is = e ∙ ap (verdict d c buffer) s
 
   pub refused-performed : not g ≡ true → outcome a (lent segment buffer) ≡ performed d c (lent segment buffer)
   unfolding performed
-  refused-performed n = rw (← judged-is, sym t ∙ not-true g n)
+  refused-performed n = rw (← verdict-is, sym t ∙ not-true g n)
 
   pub good-performed : not g ≡ false → (left : Lent) → left ≡ moved d c (lent segment buffer) → outcome a left ≡ performed d c (lent segment buffer)
   unfolding performed
-  good-performed n left m = rw (← judged-is, sym t ∙ not-false g n) (ap (outcome a) m)
+  good-performed n left m = rw (← verdict-is, sym t ∙ not-false g n) (ap (outcome a) m)
 
 -- ---- by what admission decided
 module _ (d : Description) (command : List ℕ) (l : Lent) where

@@ -13,7 +13,7 @@ use Rattle.sides.specs.declared.Side.the-variants.{Sent, Stored}
 use Rattle.admission.specs.declared.Admitted.{Admitted}
 use Rattle.admission.specs.declared.Admitted.the-variants.{Refused, Go}
 use Rattle.admission.specs.Admission.{admitted}
-use Rattle.transfer.specs.Transfer.{blocksOf, judged, handed, received}
+use Rattle.transfer.specs.Transfer.{blocksOf, verdict, handed, received}
 use Rattle.execute.specs.Lent.{Lent, lent, lengthsOf}
 
 -- the blocks of a side: what is sent stands in the buffer
@@ -34,9 +34,9 @@ movedFor Verify d c l = l
 unfoldable pub moved : Description → Command → Lent → Lent
 moved d c l = movedFor (c .operation) d c l
 
--- a command that goes on: judged, and only then moved
+-- a command that goes on: judged, compared where it compares, and only then moved
 unfoldable pub performed : Description → Command → Lent → Outcome Lent
-performed d c l = leaving (judged d c (underCheck Sent d c l) (underCheck Stored d c l)) l (moved d c l)
+performed d c l = leaving (verdict d c (underCheck Sent d c l) (underCheck Stored d c l)) l (moved d c l)
 
 abbrev pub executedAs : Admitted → Description → Lent → Outcome Lent
 executedAs (Refused a) d l = outcome a l

@@ -1,4 +1,4 @@
-// From a command's bytes to its answer: admission, then judging, and only then moving.
+// From a command's bytes to its answer: admission, then judging and comparing, and only then moving.
 ghost use mathlib.Core.Path.{_≡_};
 ghost use Prim.Native.Nat.{_+_};
 ghost use Rattle.guard.specs.Table.{Right};
@@ -37,8 +37,8 @@ fn move_blocks(
     }
 }
 
-// What an admitted command does: both sides are judged, and only then a byte moves. A side that is not checked is good, whatever
-// stands there, as the buffer of a READ. The table is made once and lent to all below.
+// What an admitted command does: both sides are judged, its blocks compared where it compares, and only then a byte moves. A side that
+// is not checked is good, whatever stands there, as the buffer of a READ. The table is made once and lent to all below.
 fn perform(d: Description, c: Command, segment: &mut [u8], buffer: &mut [u8]) -> Answer
     requires { ⌜ Ready d c (lengthsOf (lent (now segment) (now buffer))) ⌝ }
     ensures { λ a. ⌜ outcome a (lent (now (segment .exit)) (now (buffer .exit))) ≡ performed d c (lent (now (segment .entry)) (now (buffer .entry))) ⌝ }
@@ -46,7 +46,7 @@ fn perform(d: Description, c: Command, segment: &mut [u8], buffer: &mut [u8]) ->
     let t = guard::table();
     let at = segment::offset(d, c.address);
     let end = at + segment::span(d, c.length);
-    let a = transfer::judge(&t, d, c, buffer, &segment[at..end]);
+    let a = transfer::verdict(&t, d, c, buffer, &segment[at..end]);
     if !answer::is_good(a) {
         return a;
     }

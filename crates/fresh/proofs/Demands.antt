@@ -22,6 +22,8 @@ use Rattle.segment.proofs.Places.{inside}
 use Rattle.command.specs.declared.Command.{Command}
 use Rattle.command.specs.declared.Operation.{Operation}
 use Rattle.command.specs.declared.Operation.the-variants.{Read, Write}
+use Rattle.command.specs.Compares.{isVerify, compares}
+use Rattle.command.proofs.CommandLaws.{not-verify, other-bits}
 use Rattle.decoding.specs.Commands.{decode}
 use Rattle.decoding.specs.declared.Decoded.the-variants.{Served}
 use Rattle.interval.specs.declared.Escape.{Escape}
@@ -38,14 +40,15 @@ use Rattle.rules.specs.Rules.{escapeOf, rulesOf, startOf}
 use Rattle.rules.specs.Intervals.{skipped}
 use Rattle.filling.specs.Fresh.{freshIntervals, filled}
 use Rattle.refusal.specs.declared.Lengths.{Lengths}
-use Rattle.refusal.specs.Refusal.{isVerify, checkRule, movedOf, sizeRule, bufferOf, bufferRule, refusal}
+use Rattle.refusal.specs.Refusal.{checkRule, movedOf, sizeRule, bufferOf, bufferRule, refusal}
 use Rattle.refusal.proofs.Rules.{moved-plain, moved-whole, moved-most, room-moved}
 use Rattle.admission.specs.declared.Admitted.the-variants.{Go}
 use Rattle.admission.specs.Admission.{admitted}
 use Rattle.admission.specs.Ready.{Ready}
 use Rattle.admission.proofs.Ready.{admitted-served, admitted-ready}
-use Rattle.transfer.specs.Transfer.{blocksOf, judgedOn, judged}
+use Rattle.transfer.specs.Transfer.{blocksOf, judgedOn, judged, verdict}
 use Rattle.transfer.proofs.Shapes.{moved-flat, whole-not, handed-parted, judged-none, judged-all}
+use Rattle.transfer.proofs.Comparing.{compared-none}
 use Rattle.execute.specs.Lent.{lent, lengthsOf}
 use Rattle.execute.specs.Execute.{performed, executed}
 use Rattle.demands.proofs.Demands.{good-read-hands-out}
@@ -79,7 +82,7 @@ first-escapes e size (suc n) s h x = rw x refl
 read-no-write : (o : Operation) → o ≡ Read → o ≡ Write → ⊥
 read-no-write o r w = let z : _≡_ {A = ℕ} 0 1 = cc in omega arith
 
--- ---- every READ or VERIFY of a fresh segment that goes on
+-- ---- every READ, and every VERIFY that does not compare, of a fresh segment that goes on
 module _ (d : Description) (old command buffer : List ℕ) (c : Command)
     (good : filled d old .answer ≡ answers.Good) (fields : d .kind ≡ 0 → ⊥)
     (in-order : admitted d (lengthsOf (lent (filled d old .left) buffer)) command ≡ Go c) where
@@ -108,25 +111,26 @@ module _ (d : Description) (old command buffer : List ℕ) (c : Command)
       first-good (judgeBlock (rulesOf Stored d c)) (nextBlock (intervalsOf d)) (intervalsOf d * (sizeOf d + 8)) (c .length) (startOf d c) _ .1
       (λ j h. block-escaped (rulesOf Stored d c) _ _ (every-block-skipped j h))
 
-  module _ (no-write : c .operation ≡ Write → ⊥) where
+  module _ (no-write : c .operation ≡ Write → ⊥) (off : compares c ≡ false) where
     judged-good : judged d c buffer (blocksOf d c (filled d old .left)) ≡ answers.Good
     unfolding judged
     judged-good =
         orElse-good (judgedOn Sent d c buffer) _ .1 (
-          judged-none Sent d c buffer (checked-none Sent d c (sent-none (c .operation) c no-write)),
-          judged-all Stored d c _ fields (stored-all (c .operation) c no-write) ∙ blocks-good,
+          judged-none Sent d c buffer (checked-none Sent d c (sent-none (c .operation) c no-write off)),
+          judged-all Stored d c _ fields (stored-all (c .operation) c no-write off) ∙ blocks-good,
         )
 
     pub fresh-reads-good : executed d command (lent (filled d old .left) buffer) .answer ≡ answers.Good
-    unfolding executed performed
-    fresh-reads-good = rw in-order judged-good
+    unfolding executed performed verdict
+    fresh-reads-good =
+        rw in-order (orElse-good (judged d c buffer (blocksOf d c (filled d old .left))) _ .1 (judged-good, compared-none d c _ _ off))
 
   -- a READ with 000 hands out zeros
   pub fresh-reads-zero : c .operation ≡ Read → c .code ≡ 0
       → executed d command (lent (filled d old .left) buffer) .left .buffer ≡ replicate (length buffer) 0x00
   fresh-reads-zero r z =
       let room : length buffer ≡ c .length * intervalsOf d * sizeOf d = ready .room ∙ room-moved d c (ap isVerify r) ∙ sym (moved-flat d c (ready .described) z) in
-      good-read-hands-out d command (lent (filled d old .left) buffer) c (admitted-served d _ command c in-order) r (ap isGood (fresh-reads-good (read-no-write (c .operation) r)))
+      good-read-hands-out d command (lent (filled d old .left) buffer) c (admitted-served d _ command c in-order) r (ap isGood (fresh-reads-good (read-no-write (c .operation) r) (not-verify c (ap isVerify r))))
       ∙ sym (handed-parted d c (blocksOf d c (filled d old .left)) _ (sizeOf d) (intervalsOf d) (whole-not d c fields z) refl refl refl)
       ∙ ap (userData (sizeOf d) (c .length * intervalsOf d)) blocks-fresh
       ∙ zeros (sizeOf d) (c .length * intervalsOf d) ∙ ap (λ (x : ℕ). replicate x 0x00) (sym room)
@@ -152,7 +156,7 @@ module _ (d : Description) (c : Command) (s : Segment d) where
       rw (
         passed .0,
         passed .1,
-        eq-eqb (c .check) 0 check,
+        le-ltb 0b01 (c .check) (omega arith),
         inside d (c .address) (c .length) from to,
         le-ltb 4294967295 (movedOf d c) (moved-fits few),
         eq-eqb (b .buffer) (bufferOf d c) room,
@@ -172,4 +176,4 @@ module _ (d : Description) (old command buffer : List ℕ) (c : Command)
       )
 
   pub allowed-reads-good : (c .operation ≡ Write → ⊥) → executed d command (lent (filled d old .left) buffer) .answer ≡ answers.Good
-  allowed-reads-good = fresh-reads-good d old command buffer c good fields allowed-goes-on
+  allowed-reads-good no-write = fresh-reads-good d old command buffer c good fields allowed-goes-on no-write (other-bits c (λ one. omega (arith, check, one)))

@@ -25,6 +25,7 @@ fieldWord fields.Reference = Ref
 abbrev pub worded : Answer → State
 worded answers.Good = Ok
 worded (answers.Wrong f a p) = fieldWord f
+worded (answers.BlockDiffers a) = Ok
 worded (answers.Refused r) = Ok
 
 -- "State is `skipped` under the escape, else `guard`, else `ref` .., else `ok`."

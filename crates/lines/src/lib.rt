@@ -46,6 +46,7 @@ fn worded(a: Answer) -> State
     match a {
         Answer::Good => State::Ok,
         Answer::Wrong(f, _, _) => field_word(f),
+        Answer::BlockDiffers(_) => State::Ok,
         Answer::Refused(_) => State::Ok,
     }
 }

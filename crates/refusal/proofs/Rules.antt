@@ -1,6 +1,6 @@
 -- Each rule on a command's fields from the facts that decide it.
 -- Assumes nothing.
-use mathlib.Core.Path.{_≡_, refl}
+use mathlib.Core.Path.{_≡_, refl, ap}
 use mathlib.Core.Bool.{Bool, true, false, not, _&&_}
 use Prim.Native.Nat.{ℕ, _*_, _≤_}
 use native.Mathlib.Nat.{mul-le-mul}
@@ -18,8 +18,10 @@ use Rattle.segment.specs.Places.{rangeRule}
 use Rattle.segment.proofs.Laws.{sizes}
 use Rattle.segment.proofs.Places.{range-facts}
 use Rattle.command.specs.declared.Command.{Command}
+use Rattle.command.specs.Compares.{isVerify, compares}
+use Rattle.command.proofs.CommandLaws.{comparing}
 use Rattle.refusal.specs.declared.Lengths.{Lengths}
-use Rattle.refusal.specs.Refusal.{longRule, otherRule, plainRule, typeRules, isVerify, movedOf, sizeRule, bufferOf, bufferRule}
+use Rattle.refusal.specs.Refusal.{longRule, otherRule, plainRule, typeRules, movedOf, sizeRule, bufferOf, bufferRule}
 
 module _ (d : Description) (c : Command) where
   -- ---- the type rules
@@ -71,13 +73,17 @@ module _ (d : Description) (c : Command) where
   size-told n a e m = rw m at e
 
   -- ---- the buffer
-  pub room-verify : isVerify (c .operation) ≡ true → bufferOf d c ≡ 0
+  pub room-verify : isVerify (c .operation) ≡ true → compares c ≡ false → bufferOf d c ≡ 0
   unfolding bufferOf
-  room-verify v = rw v
+  room-verify v e = rw (v, e)
 
   pub room-moved : isVerify (c .operation) ≡ false → bufferOf d c ≡ movedOf d c
   unfolding bufferOf
   room-moved v = rw v
+
+  pub room-compared : compares c ≡ true → bufferOf d c ≡ movedOf d c
+  unfolding bufferOf
+  room-compared e = rw (e, ap isVerify (comparing c e .verify))
 
   pub buffer-told : (n : ℕ) (a : Answer) (l : Lengths) → a ≡ refusedIf (not (eqb (l .buffer) n)) reasons.BufferLengthWrong → n ≡ bufferOf d c → a ≡ bufferRule d c l
   unfolding bufferRule

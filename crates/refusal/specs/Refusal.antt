@@ -9,8 +9,7 @@ use Rattle.segment.specs.declared.Description.{Description}
 use Rattle.segment.specs.Segment.{storedOf}
 use Rattle.segment.specs.Places.{rangeRule}
 use Rattle.command.specs.declared.Command.{Command}
-use Rattle.command.specs.declared.Operation.{Operation}
-use Rattle.command.specs.declared.Operation.the-variants.{Read, Write, Verify}
+use Rattle.command.specs.Compares.{isVerify, compares}
 use Rattle.refusal.specs.declared.Lengths.{Lengths}
 
 -- "types 0, 1 and 3 answer 5 to every 32-byte command."
@@ -33,26 +32,25 @@ typeRules d c = orElse (longRule d c) (orElse (otherRule d c) (plainRule d c))
 unfoldable pub codeRule : Command → Answer
 codeRule c = refusedIf (ltb 0b101 (c .code)) reasons.FieldInvalid
 
-abbrev pub isVerify : Operation → Bool
-isVerify Read = false
-isVerify Write = false
-isVerify Verify = true
-
--- "byte-check bits 6": "VERIFY has byte-check bits 2-1 of the protect byte; they must be 0."; the others have none, and 0 here
+-- "byte-check bits 6": "VERIFY has byte-check bits 2-1 of the protect byte"; the others have none, and 0 here. Of document 02, "values
+-- 10b and 11b stay at 6"
 unfoldable pub checkRule : Command → Answer
-checkRule c = refusedIf (not (eqb (c .check) 0)) reasons.FieldInvalid
+checkRule c = refusedIf (ltb 0b01 (c .check)) reasons.FieldInvalid
 
--- "With code 000 the buffer holds T × B bytes, otherwise T × S"
+-- "With code 000 the buffer holds T × B bytes, otherwise T × S": of each block, and of all
+abbrev pub eachOf : Description → Command → ℕ
+eachOf d c = cond (eqb (c .code) 0) (d .block) (storedOf d)
+
 unfoldable pub movedOf : Description → Command → ℕ
-movedOf d c = c .length * cond (eqb (c .code) 0) (d .block) (storedOf d)
+movedOf d c = c .length * eachOf d c
 
 -- "14": "transfer above 4,294,967,295 bytes"
 unfoldable pub sizeRule : Description → Command → Answer
 sizeRule d c = refusedIf (ltb 4294967295 (movedOf d c)) reasons.TransferTooLarge
 
--- "VERIFY's buffer has 0 bytes."
+-- "VERIFY's buffer has 0 bytes."; with byte-check bits 01b "the buffer holds T × B bytes for code 000 and T × S otherwise, as for WRITE"
 unfoldable pub bufferOf : Description → Command → ℕ
-bufferOf d c = cond (isVerify (c .operation)) 0 (movedOf d c)
+bufferOf d c = cond (isVerify (c .operation) && not (compares c)) 0 (movedOf d c)
 
 -- "4"
 unfoldable pub bufferRule : Description → Command → Lengths → Answer

@@ -39,7 +39,7 @@ fn code_rule(c: Command) -> Answer
 fn check_rule(c: Command) -> Answer
     ensures { λ r. ⌜ r ≡ checkRule c ⌝ }
 {
-    answer::refused_if(c.check != 0, Reason::FieldInvalid)
+    answer::refused_if(0b01 < c.check, Reason::FieldInvalid)
 }
 
 // The bytes that the transfer moves.
@@ -72,7 +72,11 @@ fn buffer(d: Description, c: Command) -> usize
     match o {
         Operation::Read => moved(d, c) as usize,
         Operation::Write => moved(d, c) as usize,
-        Operation::Verify => 0,
+        Operation::Verify => if command::compares(c) {
+            moved(d, c) as usize
+        } else {
+            0
+        },
     }
 }
 

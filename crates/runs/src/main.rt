@@ -1,4 +1,5 @@
-// Runs the cases of document 01, 'Both sides of the line', that are commands, and prints what comes of each.
+// Runs the cases of document 01, 'Both sides of the line', that are commands, and some of document 02's 'Compare while verifying', and
+// prints what comes of each.
 
 fn main() {
     reads();
@@ -6,6 +7,7 @@ fn main() {
     refusals();
     write();
     write_of_type_2();
+    comparisons();
 }
 
 // READ (10) on M. Code 001 stands in the protect byte as 20h.
@@ -76,6 +78,26 @@ fn write_of_type_2() {
         &segment,
         &buffer,
     );
+}
+
+// VERIFY (10) on M with byte-check bits 01: 02h in the protect byte.
+fn comparisons() {
+    on_m(
+        b"VERIFY (10) at 9, T 1, bits 01, with its data",
+        b"\x2f\x02\x00\x00\x00\x09\x00\x00\x01\x00",
+        &mut [0, 0, 0, 0, 0, 0, 0, 0x03],
+    );
+    on_m(
+        b"VERIFY (10) at 9, T 1, bits 01, with other data",
+        b"\x2f\x02\x00\x00\x00\x09\x00\x00\x01\x00",
+        &mut [0, 0, 0, 0, 0, 0, 0, 0x83],
+    );
+    on_m(
+        b"VERIFY (10) at 8, T 1, code 001, bits 01, with another reference tag",
+        b"\x2f\x22\x00\x00\x00\x08\x00\x00\x01\x00",
+        &mut [0, 0, 0, 0, 0, 0, 0, 0x02, 0x9C, 0xD9, 0, 0, 0, 0, 0, 0x08],
+    );
+    ten_bytes(b"VERIFY (10) at 7, T 1, bits 10", 0x2F, 0x04, 7, 1, 0);
 }
 
 // A command on M, whose ATO is 0.

@@ -1,28 +1,63 @@
 -- What is checked, from the facts that decide it.
 -- Assumes nothing.
 use mathlib.Core.Path.{_≡_, refl}
-use mathlib.Core.Bool.{Bool, true, false, cond}
+use mathlib.Core.Bool.{Bool, true, false, not, _&&_, cond}
 use Prim.Native.Nat.{ℕ}
 use borrow.Author.Tests.{eq-eqb, ne-eqb, eqb-false}
 use lib.Dec.{eqb}
+use Rattle.words.proofs.Choice.{never}
 use Rattle.segment.specs.declared.Description.{Description}
 use Rattle.command.specs.declared.Command.{Command}
 use Rattle.command.specs.declared.Operation.{Operation}
 use Rattle.command.specs.declared.Operation.the-variants.{Read, Write, Verify}
+use Rattle.command.specs.Compares.{compares}
 use Rattle.sides.specs.declared.Side.{Side}
 use Rattle.sides.specs.declared.Side.the-variants.{Sent, Stored}
-use Rattle.sides.specs.Sides.{checksOn, checkedOn}
+use Rattle.sides.specs.Sides.{checksAsWrite, checksOn, checkedOn}
 
--- a READ or VERIFY checks what is stored, and nothing that is sent
-pub stored-all : (o : Operation) (c : Command) → (o ≡ Write → ⊥) → checksOn Stored o c ≡ true
-stored-all Read c n = refl
-stored-all Write c n = absurd (n refl)
-stored-all Verify c n = refl
+abbrev isStored : Side → Bool
+isStored Sent = false
+isStored Stored = true
 
-pub sent-none : (o : Operation) (c : Command) → (o ≡ Write → ⊥) → checksOn Sent o c ≡ false
-sent-none Read c n = refl
-sent-none Write c n = absurd (n refl)
-sent-none Verify c n = refl
+-- a READ, or a VERIFY that does not compare, checks what is stored, and nothing that is sent
+pub stored-all : (o : Operation) (c : Command) → (o ≡ Write → ⊥) → compares c ≡ false → checksOn Stored o c ≡ true
+stored-all Read c n e = refl
+stored-all Write c n e = absurd (n refl)
+stored-all Verify c n e = rw e
+
+pub sent-none : (o : Operation) (c : Command) → (o ≡ Write → ⊥) → compares c ≡ false → checksOn Sent o c ≡ false
+sent-none Read c n e = refl
+sent-none Write c n e = absurd (n refl)
+sent-none Verify c n e = rw e
+
+-- a VERIFY that checks as a WRITE
+pub record AsWrite (c : Command) : Type 0 where
+  pub comparing : compares c ≡ true
+  pub fields : c .code ≡ 0 → ⊥
+
+pub as-write : (c : Command) → checksAsWrite c ≡ true → AsWrite c
+as-write c e = by (compares c) refl (eqb (c .code) 0) refl e
+  where
+    by : (g : Bool) → compares c ≡ g → (z : Bool) → eqb (c .code) 0 ≡ z → (g && not z) ≡ true → AsWrite c
+    by true g true z e = never e
+    by true g false z e = record { comparing = g; fields = eqb-false (c .code) 0 z }
+    by false g z f e = never e
+
+-- a VERIFY that compares checks what is stored with 000, and what is sent with another code
+pub compared-user-data : (side : Side) (c : Command) → c .code ≡ 0 → checksOn side Verify c ≡ isStored side
+compared-user-data side c z = by side
+  where
+    neither : (g : Bool) → (g && not (eqb (c .code) 0)) ≡ false
+    neither true = rw (eq-eqb (c .code) 0 z)
+    neither false = refl
+
+    by : (side : Side) → checksOn side Verify c ≡ isStored side
+    by Sent = neither (compares c)
+    by Stored = rw (neither (compares c))
+
+pub compared-whole : (side : Side) (c : Command) → compares c ≡ true → (c .code ≡ 0 → ⊥) → checksOn side Verify c ≡ not (isStored side)
+compared-whole Sent c e n = rw (e, ne-eqb (c .code) 0 n)
+compared-whole Stored c e n = rw (e, ne-eqb (c .code) 0 n)
 
 -- a side that is checked is checked over all of the transfer's blocks
 module _ (side : Side) (d : Description) (c : Command) where

@@ -1,6 +1,6 @@
 // What is judged is one of two sides; here stands which of them an operation checks, and over how many blocks.
 ghost use mathlib.Core.Path.{_≡_};
-ghost use Rattle.sides.specs.Sides.{checksOn, checkedOn};
+ghost use Rattle.sides.specs.Sides.{checksAsWrite, checksOn, checkedOn};
 use command::Command;
 use command::Operation;
 use segment::Description;
@@ -11,6 +11,13 @@ pub enum Side {
     Stored,
 }
 
+// Whether a VERIFY checks what is sent, as a WRITE does, and not what is stored: it compares whole blocks.
+fn checks_as_write(c: Command) -> bool
+    ensures { λ r. ⌜ r ≡ checksAsWrite c ⌝ }
+{
+    words::both(command::compares(c), c.code != 0)
+}
+
 // Whether an operation checks a side.
 fn checks_on(side: Side, o: Operation, c: Command) -> bool
     ensures { λ r. ⌜ r ≡ checksOn side o c ⌝ }
@@ -19,12 +26,12 @@ fn checks_on(side: Side, o: Operation, c: Command) -> bool
         Side::Sent => match o {
             Operation::Read => false,
             Operation::Write => c.code != 0,
-            Operation::Verify => false,
+            Operation::Verify => checks_as_write(c),
         },
         Side::Stored => match o {
             Operation::Read => true,
             Operation::Write => false,
-            Operation::Verify => true,
+            Operation::Verify => !checks_as_write(c),
         },
     }
 }

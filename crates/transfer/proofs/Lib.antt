@@ -1,2 +1,3 @@
 pub mod Shapes
+pub mod Comparing
 pub mod Coincide

@@ -1,14 +1,16 @@
-// What an admitted command does with its blocks: judging, and moving.
+// What an admitted command does with its blocks: judging, comparing, and moving.
 ghost use mathlib.Core.Path.{_≡_};
 ghost use Prim.Native.Nat.{_+_, _≤_};
 ghost use lib.ListN.{length};
 ghost use Rattle.words.specs.Parts.{put};
 ghost use Rattle.guard.specs.Table.{Right};
+ghost use Rattle.segment.specs.Segment.{Segment};
 ghost use Rattle.segment.specs.Places.{spanOf};
-ghost use Rattle.transfer.specs.Transfer.{whole, judgedOn, judged, handed, received};
-ghost use Rattle.transfer.specs.Inner.{Shaped, Sided, Fitted};
+ghost use Rattle.transfer.specs.Transfer.{whole, judgedOn, judged, compared, verdict, handed, received};
+ghost use Rattle.transfer.specs.Inner.{Shaped, Sided, Fitted, cutOf, Paired};
 use answer::Answer;
 use command::Command;
+use comparison::Cut;
 use segment::Description;
 use sides::Side;
 
@@ -47,6 +49,54 @@ pub fn judge(t: &[u16; 256], d: Description, c: Command, sent: &[u8], stored: &[
         return a;
     }
     judge_on(t, Side::Stored, d, c, stored)
+}
+
+// What of a stored block is compared: all of it, or of each interval the data.
+fn cut(d: Description, c: Command) -> Cut
+    requires { ⌜ Segment d ⌝ }
+    ensures { λ r. ⌜ r ≡ cutOf d c ⌝ }
+{
+    if whole(d, c) {
+        let stored = segment::stored(d);
+        return Cut {
+            pieces: 1,
+            size: stored,
+            stride: stored,
+        };
+    }
+    let size = segment::size(d);
+    Cut {
+        pieces: segment::intervals(d),
+        size,
+        stride: size + 8,
+    }
+}
+
+// The first of the transfer's blocks that is not the one sent; good for a command that does not compare.
+fn compare(d: Description, c: Command, sent: &[u8], stored: &[u8]) -> Answer
+    requires { ⌜ Shaped d c ⌝ }
+    requires { ⌜ Paired d c (length (now sent)) (length (now stored)) ⌝ }
+    ensures { λ a. ⌜ a ≡ compared d c (now (sent .entry)) (now (stored .entry)) ⌝ }
+{
+    if !command::compares(c) {
+        return Answer::Good;
+    }
+    comparison::compare_blocks(cut(d, c), c.address, c.length as usize, stored, sent)
+}
+
+// The verdict on a transfer: all of its intervals are judged, and only then its blocks compared.
+pub fn verdict(t: &[u16; 256], d: Description, c: Command, sent: &[u8], stored: &[u8]) -> Answer
+    requires { ⌜ Right (now t) ⌝ }
+    requires { ⌜ Shaped d c ⌝ }
+    requires { ⌜ (Sided Side.Sent d c (length (now sent))) × (Sided Side.Stored d c (length (now stored))) ⌝ }
+    requires { ⌜ Paired d c (length (now sent)) (length (now stored)) ⌝ }
+    ensures { λ a. ⌜ a ≡ verdict d c (now (sent .entry)) (now (stored .entry)) ⌝ }
+{
+    let a = judge(t, d, c, sent, stored);
+    if !answer::is_good(a) {
+        return a;
+    }
+    compare(d, c, sent, stored)
 }
 
 // Fills the buffer with the transfer's blocks, or their user data.

@@ -15,8 +15,8 @@ plain true = refl
 plain false = refl
 
 -- a number without a sense
-none : (n : ℕ) → (n ≡ 5 → ⊥) → (n ≡ 6 → ⊥) → (n ≡ 7 → ⊥) → (n ≡ 8 → ⊥) → (n ≡ 9 → ⊥) → (n ≡ 10 → ⊥) → (n ≡ 12 → ⊥) → 0 ≡ senseNumbered n
-none n a b c d e f g =
+none : (n : ℕ) → (n ≡ 5 → ⊥) → (n ≡ 6 → ⊥) → (n ≡ 7 → ⊥) → (n ≡ 8 → ⊥) → (n ≡ 9 → ⊥) → (n ≡ 10 → ⊥) → (n ≡ 12 → ⊥) → (n ≡ 15 → ⊥) → 0 ≡ senseNumbered n
+none n a b c d e f g h =
     rw (
       ne-eqb n 5 a,
       ne-eqb n 6 b,
@@ -25,6 +25,7 @@ none n a b c d e f g =
       ne-eqb n 9 e,
       ne-eqb n 10 f,
       ne-eqb n 12 g,
+      ne-eqb n 15 h,
       plain (eqb n 14),
       plain (eqb n 13),
       plain (eqb n 11),
@@ -57,7 +58,10 @@ returns-7 : tie.Need-returns-7
 returns-7 c = rw (c .match .keys7)
 
 returns-8 : tie.Need-returns-8
-returns-8 c = let r = c .match .rest in none _ (r .0 .0 .0 .0 .0 .0 .1) (r .0 .0 .0 .0 .0 .1) (r .0 .0 .0 .0 .1) (r .0 .0 .0 .1) (r .0 .0 .1) (r .0 .1) (r .1)
+returns-8 c = rw (c .match .keys8)
+
+returns-9 : tie.Need-returns-9
+returns-9 c = let r = c .match .rest in none _ (r .0 .0 .0 .0 .0 .0 .0 .1) (r .0 .0 .0 .0 .0 .0 .1) (r .0 .0 .0 .0 .0 .1) (r .0 .0 .0 .0 .1) (r .0 .0 .0 .1) (r .0 .0 .1) (r .0 .1) (r .1)
 
 pub sense-numbered-spec : {M : Type 1} → statement M
-sense-numbered-spec = tie.close (tie.spec returns returns-2 returns-3 returns-4 returns-5 returns-6 returns-7 returns-8)
+sense-numbered-spec = tie.close (tie.spec returns returns-2 returns-3 returns-4 returns-5 returns-6 returns-7 returns-8 returns-9)

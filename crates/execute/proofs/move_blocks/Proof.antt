@@ -2,7 +2,7 @@
 -- Assumes nothing.
 use mathlib.Core.Path.{refl, ap}
 use native.Mathlib.Omega.{arith}
-use Rattle.refusal.specs.Refusal.{isVerify}
+use Rattle.command.specs.Compares.{isVerify}
 use Rattle.execute.proofs.Outcomes.{within, shaped, part, fitted, blocks-are, read-moved, write-moved, verify-moved}
 use borrow.Author.Needs.{needs}
 use Rattle.execute.proofs.move_blocks.Statement.{statement}

@@ -1,8 +1,8 @@
--- `execute::perform`: both sides are judged, and only where they are good is a byte moved.
+-- `execute::perform`: both sides are judged, blocks compared, and only where all is good is a byte moved.
 -- Assumes nothing.
 use mathlib.Core.Path.{refl}
 use native.Mathlib.Omega.{arith}
-use Rattle.execute.proofs.Outcomes.{located, short, within, shaped, sent, part, blocks-are, ends, refused-performed, good-performed}
+use Rattle.execute.proofs.Outcomes.{located, short, within, shaped, sent, paired, part, blocks-are, ends, refused-performed, good-performed}
 use borrow.Author.Needs.{needs}
 use Rattle.execute.proofs.perform.Statement.{statement}
 use Rattle.execute.proofs.perform.Tie as tie
@@ -16,22 +16,23 @@ span-requires c κs = (c .before .before .before .before .pre .described, short 
 add-end : tie.Need-add-end
 add-end c = omega (arith, within (c .before .before .before .before .before .pre) _ _ (c .before .offset .ensures) (ends _ _ _ (c .span .ensures)), c .before .before .before .before .before .good)
 
-part-judge-end : tie.Need-part-judge-end
-part-judge-end c =
+part-verdict-end : tie.Need-part-verdict-end
+part-verdict-end c =
     let span = c .before .before .before in
     within (span .before .before .before .before .before .pre) _ _ (span .before .offset .ensures) (ends _ _ _ (span .span .ensures))
 
-judge-requires : tie.Need-judge-requires
-judge-requires c κs =
+verdict-requires : tie.Need-verdict-requires
+verdict-requires c κs =
     let span = c .before .before .before .before in
     let pre = span .before .before .before .before .before .pre in
-    (span .before .before .table .ensures, (shaped pre, (sent pre, λ n. part pre _ _ _ refl (span .before .offset .ensures) (ends _ _ _ (span .span .ensures)))))
+    let there = part pre _ _ _ refl (span .before .offset .ensures) (ends _ _ _ (span .span .ensures)) in
+    (span .before .before .table .ensures, (shaped pre, ((sent pre, λ n. there), paired pre _ there)))
 
 returns : tie.Need-returns
 returns c =
-    let judge = c .before .before in
+    let judged = c .before .before in
     let span = c .before .before .before .before .before .before .before in
-    refused-performed _ _ _ _ _ _ _ (blocks-are _ _ _ _ _ (span .before .offset .ensures) (ends _ _ _ (span .span .ensures))) (judge .judge .ensures) (c .before .is-good .ensures) (c .if1 .taken)
+    refused-performed _ _ _ _ _ _ _ (blocks-are _ _ _ _ _ (span .before .offset .ensures) (ends _ _ _ (span .span .ensures))) (judged .verdict .ensures) (c .before .is-good .ensures) (c .if1 .taken)
 
 move-blocks-requires : tie.Need-move-blocks-requires
 move-blocks-requires c κs =
@@ -41,9 +42,9 @@ move-blocks-requires c κs =
 returns-2 : tie.Need-returns-2
 returns-2 c =
     let good = c .before .before .before .before .before .before .before .before in
-    let judge = good .before .before in
+    let judged = good .before .before in
     let span = good .before .before .before .before .before .before .before in
-    good-performed _ _ _ _ _ _ _ (blocks-are _ _ _ _ _ (span .before .offset .ensures) (ends _ _ _ (span .span .ensures))) (judge .judge .ensures) (good .before .is-good .ensures) (good .if1 .left) _ (c .before .before .before .before .move-blocks .ensures)
+    good-performed _ _ _ _ _ _ _ (blocks-are _ _ _ _ _ (span .before .offset .ensures) (ends _ _ _ (span .span .ensures))) (judged .verdict .ensures) (good .before .is-good .ensures) (good .if1 .left) _ (c .before .before .before .before .move-blocks .ensures)
 
 pub perform-spec : {M : Type 1} → statement M
 perform-spec =
@@ -54,8 +55,8 @@ perform-spec =
     span-requires
     add-end
     (λ c. search needs) (λ c. search needs)
-    part-judge-end
-    judge-requires
+    part-verdict-end
+    verdict-requires
     (λ c κs. search needs) (λ c. search needs) (λ c. search needs)
     returns
     move-blocks-requires
