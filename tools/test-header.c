@@ -133,11 +133,9 @@ static struct done on_m(const struct description *d, const uint8_t *command, siz
     return done;
 }
 
-static void refuses(struct done done, uint64_t number, uint64_t address, uint64_t place) {
-    CHECK(done.number == number);
-    CHECK(done.address == address);
-    CHECK(done.place == place);
-    CHECK(!done.segment_changed && !done.buffer_changed);
+static int leaves_all(struct done done, uint64_t number, uint64_t address, uint64_t place) {
+    return done.number == number && done.address == address && done.place == place && !done.segment_changed &&
+           !done.buffer_changed;
 }
 
 static const uint8_t READ_TWO[11] = {0x28, 0x20, 0, 0, 0, 7, 0, 0, 2, 0, 0};
@@ -158,13 +156,13 @@ static void commands(void) {
     CHECK(done.number == LAMPTASSEL_GOOD && done.address == 0 && done.place == 0 && done.segment_changed);
     CHECK(!done.buffer_changed);
     CHECK(on_m(&OF_M, VERIFY_ONE, 10, NULL, 0).number == LAMPTASSEL_GOOD);
-    refuses(on_m(&OF_M, READ_TWO, 11, NULL, 32), LAMPTASSEL_COMMAND_LENGTH_WRONG, 0, 0);
-    refuses(on_m(&OF_M, READ_TWO, 10, NULL, 31), LAMPTASSEL_BUFFER_LENGTH_WRONG, 0, 0);
-    refuses(on_m(&OF_M, NO_OPERATION, 10, NULL, 0), LAMPTASSEL_OPERATION_INVALID, 0, 0);
-    refuses(on_m(&OF_M, READ_CODE_110, 10, NULL, 16), LAMPTASSEL_FIELD_INVALID, 0, 0);
-    refuses(on_m(&OF_M, READ_PAST, 10, NULL, 8), LAMPTASSEL_ADDRESS_OUT_OF_RANGE, 0, 0);
-    refuses(on_m(&OF_M, WRITE_THIRD, 10, M + 32, 16), LAMPTASSEL_GUARD_CHECK_FAILED, 9, 0);
-    refuses(on_m(&OF_M, READ_TWO, 10, NULL, 32), LAMPTASSEL_REFERENCE_CHECK_FAILED, 8, 1);
+    CHECK(leaves_all(on_m(&OF_M, READ_TWO, 11, NULL, 32), LAMPTASSEL_COMMAND_LENGTH_WRONG, 0, 0));
+    CHECK(leaves_all(on_m(&OF_M, READ_TWO, 10, NULL, 31), LAMPTASSEL_BUFFER_LENGTH_WRONG, 0, 0));
+    CHECK(leaves_all(on_m(&OF_M, NO_OPERATION, 10, NULL, 0), LAMPTASSEL_OPERATION_INVALID, 0, 0));
+    CHECK(leaves_all(on_m(&OF_M, READ_CODE_110, 10, NULL, 16), LAMPTASSEL_FIELD_INVALID, 0, 0));
+    CHECK(leaves_all(on_m(&OF_M, READ_PAST, 10, NULL, 8), LAMPTASSEL_ADDRESS_OUT_OF_RANGE, 0, 0));
+    CHECK(leaves_all(on_m(&OF_M, WRITE_THIRD, 10, M + 32, 16), LAMPTASSEL_GUARD_CHECK_FAILED, 9, 0));
+    CHECK(leaves_all(on_m(&OF_M, READ_TWO, 10, NULL, 32), LAMPTASSEL_REFERENCE_CHECK_FAILED, 8, 1));
 }
 
 /* READ (32), code 001, of M's first two blocks as type 2 with ATO 1: first tag 7, application tag 0001h, mask FFFFh. */
@@ -172,15 +170,15 @@ static void long_command(void) {
     static const struct description TYPE_2 = {2, 8, 0, 7, 3, 1};
     static const uint8_t READ_32[32] = {0x7F, 0, 0, 0, 0, 0, 0, 0x18, 0, 9, 0x20, 0, 0, 0,    0,    0,
                                         0,    0, 0, 7, 0, 0, 0, 7,    0, 1, 0xFF, 0xFF, 0, 0, 0, 2};
-    refuses(on_m(&TYPE_2, READ_32, 32, NULL, 32), LAMPTASSEL_APPLICATION_CHECK_FAILED, 7, 0);
-    refuses(on_m(&OF_M, READ_32, 32, NULL, 32), LAMPTASSEL_OPERATION_INVALID, 0, 0);
+    CHECK(leaves_all(on_m(&TYPE_2, READ_32, 32, NULL, 32), LAMPTASSEL_APPLICATION_CHECK_FAILED, 7, 0));
+    CHECK(leaves_all(on_m(&OF_M, READ_32, 32, NULL, 32), LAMPTASSEL_OPERATION_INVALID, 0, 0));
 }
 
 /* The address that comes back is not cut either. */
 static void wide_address(void) {
     static const struct description FAR = {1, 8, 0, (UINT64_C(1) << 40) + 7, 3, 0};
     static const uint8_t READ_16[16] = {0x88, 0x20, 0, 0, 1, 0, 0, 0, 0, 7, 0, 0, 0, 2, 0, 0};
-    refuses(on_m(&FAR, READ_16, 16, NULL, 32), LAMPTASSEL_REFERENCE_CHECK_FAILED, (UINT64_C(1) << 40) + 8, 1);
+    CHECK(leaves_all(on_m(&FAR, READ_16, 16, NULL, 32), LAMPTASSEL_REFERENCE_CHECK_FAILED, (UINT64_C(1) << 40) + 8, 1));
 }
 
 static void descriptions(void) {
@@ -191,7 +189,7 @@ static void descriptions(void) {
     memcpy(before, out, sizeof out);
     for (size_t i = 0; i < ENTRIES(TOO_WIDE); i++) {
         const struct description *d = &TOO_WIDE[i];
-        refuses(on_m(d, READ_NOTHING, 10, NULL, 0), LAMPTASSEL_DESCRIPTION_BAD, 0, 0);
+        CHECK(leaves_all(on_m(d, READ_NOTHING, 10, NULL, 0), LAMPTASSEL_DESCRIPTION_BAD, 0, 0));
         CHECK(fill(TOLD(d), out, sizeof out) == LAMPTASSEL_DESCRIPTION_BAD);
         CHECK(parity(TOLD(d), 2, members, sizeof members, out, sizeof out) == LAMPTASSEL_DESCRIPTION_BAD);
         CHECK(rebuild(TOLD(d), 2, 0, parts, sizeof parts, out, sizeof out) == LAMPTASSEL_DESCRIPTION_BAD);
