@@ -10,9 +10,10 @@
  *
  * Each line on standard input is a command in hexadecimal, and after it its buffer, as data
  * in hexadecimal (in as many words as one likes) or as @NAME, the name of a file that holds
- * it. A WRITE takes its data from there; a READ without one is lent a buffer of the length
- * that it wants. For each the answer is printed, and the data of a good READ. Lines that
- * begin with # are printed as they are, empty ones skipped.
+ * it. A WRITE takes its data from there, and a VERIFY with byte-check bits 01b the copy that
+ * it compares; a READ without one is lent a buffer of the length that it wants. For each the
+ * answer is printed, and the data of a good READ. Lines that begin with # are printed as they
+ * are, empty ones skipped.
  *
  * Exit status: 0, whatever the answers; 1 if the incident does not go as it should; 2 for
  * words or lines that cannot be understood; 3 if a file cannot be read or written.
@@ -97,6 +98,7 @@ static const char *meaning(uint64_t number) {
         "field in parameter list invalid",
         "listing record bad",
         "transfer above 4,294,967,295 bytes",
+        "block differs",
     };
     return number < sizeof MEANINGS / sizeof *MEANINGS ? MEANINGS[number] : "unknown";
 }
@@ -109,6 +111,8 @@ static void print_answer(struct answer a) {
                LAMPTASSEL_CODE_OF(sense), LAMPTASSEL_QUALIFIER_OF(sense));
     if (a.number >= LAMPTASSEL_GUARD_CHECK_FAILED && a.number <= LAMPTASSEL_REFERENCE_CHECK_FAILED)
         printf(", address %" PRIu64 ", interval %" PRIu64, a.address, a.place);
+    else if (a.number == LAMPTASSEL_BLOCK_DIFFERS)
+        printf(", address %" PRIu64, a.address);
     putchar('\n');
 }
 

@@ -19,8 +19,8 @@
  *   less than 4 KB of stack.
  * - Any number of threads may call at once, as long as nobody else touches a buffer during
  *   the call that writes it, or writes one during a call that reads it. A READ and a VERIFY
- *   only read `segment`, and a WRITE only reads `buffer`, though they are not const: so
- *   READs and VERIFYs of one segment may run at the same time, and what is only read may
+ *   only read `segment`, a WRITE and a VERIFY only read `buffer`, though they are not const:
+ *   so READs and VERIFYs of one segment may run at the same time, and what is only read may
  *   lie in read-only memory (a cast from const is allowed there).
  *
  * Six numbers describe a segment, in this order:
@@ -52,7 +52,7 @@ extern "C" {
 
 /*
  * The answers; comments call them by their numbers. 8 to 10 come with the address of the
- * block and the place of the interval.
+ * block and the place of the interval, 15 with the address of the block alone.
  */
 enum lamptassel_answer {
     LAMPTASSEL_GOOD = 0,
@@ -69,7 +69,8 @@ enum lamptassel_answer {
     LAMPTASSEL_STRIPE_SHAPE_BAD = 11,
     LAMPTASSEL_PARAMETER_INVALID = 12,   /* a field in the parameter list */
     LAMPTASSEL_LISTING_RECORD_BAD = 13,  /* only ever printed, by lamptassel_list */
-    LAMPTASSEL_TRANSFER_TOO_LARGE = 14   /* above 4,294,967,295 bytes: never reached, no segment is so large */
+    LAMPTASSEL_TRANSFER_TOO_LARGE = 14,  /* above 4,294,967,295 bytes: never reached, no segment is so large */
+    LAMPTASSEL_BLOCK_DIFFERS = 15        /* from the one sent, where a VERIFY compares them */
 };
 
 /* The senses, as lamptassel_sense gives them; the other answers have none. */
@@ -80,7 +81,8 @@ enum lamptassel_sense_of_answer {
     LAMPTASSEL_SENSE_GUARD = 0x0B1001,
     LAMPTASSEL_SENSE_APPLICATION = 0x0B1002,
     LAMPTASSEL_SENSE_REFERENCE = 0x0B1003,
-    LAMPTASSEL_SENSE_PARAMETER = 0x052600
+    LAMPTASSEL_SENSE_PARAMETER = 0x052600,
+    LAMPTASSEL_SENSE_BLOCK = 0x0E1D00
 };
 
 /* The parts of a sense. */
@@ -95,21 +97,22 @@ enum lamptassel_sense_of_answer {
  *   segment           its stored blocks, N * S bytes
  *   command           the command as it came, byte 0 first
  *   buffer            the transfer's blocks: for a WRITE they come from here, a READ puts
- *                     them here. With T the command's length in blocks: T * B bytes with
- *                     protect code 000 (user data alone), T * S with any other (data and
- *                     fields as stored), 0 for a VERIFY
+ *                     them here, a VERIFY with byte-check bits 01b compares with them. With
+ *                     T the command's length in blocks: T * B bytes with protect code 000
+ *                     (user data alone), T * S with any other (data and fields as stored),
+ *                     0 for a VERIFY with byte-check bits 00b
  *   address, place    the address of the block and the place of the interval in the
- *                     transfer, counted from 0, where the answer is 8, 9 or 10; 0 and 0
- *                     with every other answer
+ *                     transfer, counted from 0, where the answer is 8, 9 or 10; the address
+ *                     of the block and 0 where it is 15; 0 and 0 with every other answer
  *
  * All of the transfer is judged before the first byte moves. A READ and a VERIFY never
- * change the segment, a WRITE never the buffer; a good WRITE overwrites the transfer's own
- * blocks of the segment and no other.
+ * change the segment, a WRITE and a VERIFY never the buffer; a good WRITE overwrites the
+ * transfer's own blocks of the segment and no other.
  *
- * Not judged: code 011 checks nothing, a READ or VERIFY skips a block that has the escape,
- * and type 0 has no fields. Codes 000, 001 and 101 check all three fields, 010 all but the
- * guard, 100 the guard alone; and each only where it is known what it must be: the guard
- * always; the application tag with ATO 1 and a 32-byte command, under its mask; the
+ * Not judged: code 011 checks nothing, a READ or VERIFY skips a stored block that has the
+ * escape, and type 0 has no fields. Codes 000, 001 and 101 check all three fields, 010 all
+ * but the guard, 100 the guard alone; and each only where it is known what it must be: the
+ * guard always; the application tag with ATO 1 and a 32-byte command, under its mask; the
  * reference tag for type 1 from the low four bytes of the command's address on, for type 2
  * from the first tag of a 32-byte command on, one more for each interval, modulo 2^32; for
  * type 3 never.
@@ -122,6 +125,16 @@ enum lamptassel_sense_of_answer {
  *   the reference tag: as expected above; for type 2 with 10, 12 or 16 bytes the address of
  *       the block * n + the interval in the block, modulo 2^32; for type 3 0
  *
+ * A VERIFY moves nothing. With byte-check bits 00b (bits 2-1 of the byte that has the
+ * protect code) it checks the stored intervals as a READ does. With 01b it compares the
+ * stored blocks with those in buffer, after all checks have passed:
+ *   with code 000 the stored intervals are checked, and then the user data is compared;
+ *       fields are not, since none are sent
+ *   with any other code the intervals in buffer are checked as those of a WRITE, with no
+ *       escape, and not the stored ones; then all S bytes of each block are compared
+ *   for type 0 nothing is checked, and the data is compared
+ * A block that has the escape is compared like any other.
+ *
  * Returns
  *   0   good
  *   1   the six numbers describe no segment
@@ -131,13 +144,15 @@ enum lamptassel_sense_of_answer {
  *   5   the operation is not served; types 0, 1 and 3 serve no 32-byte command; type 2
  *       serves commands of 10, 12 and 16 bytes only with code 000
  *   6   a field of the command is invalid: its protect code (110, 111; for type 0 any but
- *       000), the byte-check bits of a VERIFY, or byte 7 of 32
+ *       000), the byte-check bits of a VERIFY (10b, 11b), or byte 7 of 32
  *   7   address below W, or address + T above W + N, also where T is 0
  *   8, 9, 10  guard, application tag or reference tag of an interval is not as expected;
  *       the first such interval is named, and in it the first such field
  *   14  the transfer has more than 4,294,967,295 bytes: never reached
+ *   15  with byte-check bits 01b a stored block differs from the one in buffer; the first
+ *       such block is named
  * Where several apply: 1, then 2, then those of the command's own bytes (3, 5, 6, in the
- * order of document 01), then 7, then 14, then 4, then 8 to 10.
+ * order of document 01), then 7, then 14, then 4, then 8 to 10, then 15.
  */
 uint64_t lamptassel_execute(uint64_t kind, uint64_t block, uint64_t exponent, uint64_t first, uint64_t count,
                             uint64_t ato, uint8_t *segment, size_t segment_length, const uint8_t *command,

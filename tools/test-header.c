@@ -60,7 +60,7 @@ static uint64_t (*const guards)(const uint8_t *, size_t, size_t, uint8_t *, size
 static size_t (*const list)(const uint8_t *, size_t, uint8_t *, size_t) = lamptassel_list;
 static uint32_t (*const sense)(uint64_t) = lamptassel_sense;
 
-/* Document 01's table. */
+/* Document 01's table, and behind it the answers of document 02. */
 static const struct {
     uint64_t constant, number;
     uint32_t sense_constant, sense;
@@ -80,6 +80,7 @@ static const struct {
     {LAMPTASSEL_PARAMETER_INVALID, 12, LAMPTASSEL_SENSE_PARAMETER, 0x052600},
     {LAMPTASSEL_LISTING_RECORD_BAD, 13, 0, 0},
     {LAMPTASSEL_TRANSFER_TOO_LARGE, 14, 0, 0},
+    {LAMPTASSEL_BLOCK_DIFFERS, 15, LAMPTASSEL_SENSE_BLOCK, 0x0E1D00},
 };
 
 /* Segment M of document 01: type 1, block 8, exponent 0, first 7, count 3. */
@@ -133,11 +134,9 @@ static struct done on_m(const struct description *d, const uint8_t *command, siz
     return done;
 }
 
-static void refuses(struct done done, uint64_t number, uint64_t address, uint64_t place) {
-    CHECK(done.number == number);
-    CHECK(done.address == address);
-    CHECK(done.place == place);
-    CHECK(!done.segment_changed && !done.buffer_changed);
+static int leaves_all(struct done done, uint64_t number, uint64_t address, uint64_t place) {
+    return done.number == number && done.address == address && done.place == place && !done.segment_changed &&
+           !done.buffer_changed;
 }
 
 static const uint8_t READ_TWO[11] = {0x28, 0x20, 0, 0, 0, 7, 0, 0, 2, 0, 0};
@@ -147,6 +146,8 @@ static const uint8_t READ_PAST[10] = {0x28, 0, 0, 0, 0, 10, 0, 0, 1, 0};
 static const uint8_t READ_CODE_110[10] = {0x28, 0xC0, 0, 0, 0, 7, 0, 0, 1, 0};
 static const uint8_t NO_OPERATION[10] = {0};
 static const uint8_t VERIFY_ONE[10] = {0x2F, 0, 0, 0, 0, 7, 0, 0, 1, 0};
+static const uint8_t COMPARE_DATA[10] = {0x2F, 0x02, 0, 0, 0, 7, 0, 0, 1, 0};
+static const uint8_t COMPARE_NOTHING[10] = {0x2F, 0x22, 0, 0, 0, 10, 0, 0, 0, 0};
 static const uint8_t WRITE_THIRD[10] = {0x2A, 0x20, 0, 0, 0, 9, 0, 0, 1, 0};
 static const uint8_t WRITE_DATA[10] = {0x2A, 0, 0, 0, 0, 9, 0, 0, 1, 0};
 
@@ -158,29 +159,93 @@ static void commands(void) {
     CHECK(done.number == LAMPTASSEL_GOOD && done.address == 0 && done.place == 0 && done.segment_changed);
     CHECK(!done.buffer_changed);
     CHECK(on_m(&OF_M, VERIFY_ONE, 10, NULL, 0).number == LAMPTASSEL_GOOD);
-    refuses(on_m(&OF_M, READ_TWO, 11, NULL, 32), LAMPTASSEL_COMMAND_LENGTH_WRONG, 0, 0);
-    refuses(on_m(&OF_M, READ_TWO, 10, NULL, 31), LAMPTASSEL_BUFFER_LENGTH_WRONG, 0, 0);
-    refuses(on_m(&OF_M, NO_OPERATION, 10, NULL, 0), LAMPTASSEL_OPERATION_INVALID, 0, 0);
-    refuses(on_m(&OF_M, READ_CODE_110, 10, NULL, 16), LAMPTASSEL_FIELD_INVALID, 0, 0);
-    refuses(on_m(&OF_M, READ_PAST, 10, NULL, 8), LAMPTASSEL_ADDRESS_OUT_OF_RANGE, 0, 0);
-    refuses(on_m(&OF_M, WRITE_THIRD, 10, M + 32, 16), LAMPTASSEL_GUARD_CHECK_FAILED, 9, 0);
-    refuses(on_m(&OF_M, READ_TWO, 10, NULL, 32), LAMPTASSEL_REFERENCE_CHECK_FAILED, 8, 1);
+    CHECK(leaves_all(on_m(&OF_M, READ_TWO, 11, NULL, 32), LAMPTASSEL_COMMAND_LENGTH_WRONG, 0, 0));
+    CHECK(leaves_all(on_m(&OF_M, READ_TWO, 10, NULL, 31), LAMPTASSEL_BUFFER_LENGTH_WRONG, 0, 0));
+    CHECK(leaves_all(on_m(&OF_M, NO_OPERATION, 10, NULL, 0), LAMPTASSEL_OPERATION_INVALID, 0, 0));
+    CHECK(leaves_all(on_m(&OF_M, READ_CODE_110, 10, NULL, 16), LAMPTASSEL_FIELD_INVALID, 0, 0));
+    CHECK(leaves_all(on_m(&OF_M, READ_PAST, 10, NULL, 8), LAMPTASSEL_ADDRESS_OUT_OF_RANGE, 0, 0));
+    CHECK(leaves_all(on_m(&OF_M, WRITE_THIRD, 10, M + 32, 16), LAMPTASSEL_GUARD_CHECK_FAILED, 9, 0));
+    CHECK(leaves_all(on_m(&OF_M, READ_TWO, 10, NULL, 32), LAMPTASSEL_REFERENCE_CHECK_FAILED, 8, 1));
 }
 
-/* READ (32), code 001, of M's first two blocks as type 2 with ATO 1: first tag 7, application tag 0001h, mask FFFFh. */
+/* Bits of a VERIFY's protect byte: byte-check bits 01b, 10b and 11b, and codes. */
+enum { COMPARING = 0x02, BYTE_CHECK_10 = 0x04, BYTE_CHECK_11 = 0x06, CODE_001 = 0x20, CODE_011 = 0x60 };
+
+/* VERIFY (10) on M. */
+static struct done verify(const struct description *d, uint8_t bits, uint8_t from, uint8_t blocks, const uint8_t *sent,
+                          size_t length) {
+    const uint8_t command[10] = {0x2F, bits, 0, 0, 0, from, 0, 0, blocks, 0};
+    return on_m(d, command, 10, sent, length);
+}
+
+/* M's first two blocks against what is sent of them, `size` bytes of each, under a code that checks nothing in that. */
+static void compares(const struct description *d, uint8_t code, const uint8_t *sent, size_t size) {
+    const uint8_t bits = code | COMPARING;
+    const size_t length = 2 * size;
+    uint8_t other[32];
+    CHECK(leaves_all(verify(d, bits, 7, 2, sent, length), LAMPTASSEL_GOOD, 0, 0));
+    memcpy(other, sent, length);
+    for (size_t i = 0; i < length; i++) {
+        other[i] ^= 1;
+        CHECK(leaves_all(verify(d, bits, 7, 2, other, length), LAMPTASSEL_BLOCK_DIFFERS, 7 + i / size, 0));
+        other[i] ^= 1;
+    }
+    other[size - 1] ^= 1;
+    other[size] ^= 1;
+    CHECK(leaves_all(verify(d, bits, 7, 2, other, length), LAMPTASSEL_BLOCK_DIFFERS, 7, 0));
+    CHECK(leaves_all(verify(d, bits, 7, 2, sent, length - 1), LAMPTASSEL_BUFFER_LENGTH_WRONG, 0, 0));
+    CHECK(leaves_all(verify(d, bits, 7, 2, sent, length + 1), LAMPTASSEL_BUFFER_LENGTH_WRONG, 0, 0));
+    CHECK(leaves_all(verify(d, bits, 7, 2, sent, 0), LAMPTASSEL_BUFFER_LENGTH_WRONG, 0, 0));
+    CHECK(leaves_all(verify(d, code, 7, 2, sent, length), LAMPTASSEL_BUFFER_LENGTH_WRONG, 0, 0));
+    CHECK(leaves_all(verify(d, code | BYTE_CHECK_10, 7, 2, sent, length), LAMPTASSEL_FIELD_INVALID, 0, 0));
+    CHECK(leaves_all(verify(d, code | BYTE_CHECK_11, 7, 2, sent, length), LAMPTASSEL_FIELD_INVALID, 0, 0));
+}
+
+static void comparisons(void) {
+    /* Type 3 judges no reference tag, so that M's first two blocks pass; those that a WRITE would insert are others. */
+    static const struct description TYPE_0 = {0, 16, 0, 7, 3, 0}, TYPE_3 = {3, 8, 0, 7, 3, 0};
+    uint8_t data[24], mended[32];
+    for (size_t i = 0; i < 3; i++)
+        memcpy(data + 8 * i, M + 16 * i, 8);
+    memcpy(mended, M, sizeof mended);
+    mended[31] = 8;
+    compares(&TYPE_0, 0, M, 16);
+    compares(&TYPE_3, 0, data, 8);
+    compares(&OF_M, CODE_011, M, 16);
+    /* The second block's reference tag is wrong in M and right in `mended`. With 000 what is stored is checked, with
+       001 what is sent, and a check that fails comes before a block that differs, also before an earlier one. */
+    CHECK(leaves_all(verify(&OF_M, COMPARING, 7, 2, data + 8, 16), LAMPTASSEL_REFERENCE_CHECK_FAILED, 8, 1));
+    CHECK(leaves_all(verify(&OF_M, CODE_001 | COMPARING, 7, 2, M, 32), LAMPTASSEL_REFERENCE_CHECK_FAILED, 8, 1));
+    CHECK(leaves_all(verify(&OF_M, CODE_001 | COMPARING, 7, 2, mended, 32), LAMPTASSEL_BLOCK_DIFFERS, 8, 0));
+    CHECK(leaves_all(verify(&TYPE_3, CODE_001 | COMPARING, 7, 2, M, 32), LAMPTASSEL_GOOD, 0, 0));
+    CHECK(leaves_all(verify(&OF_M, CODE_001 | COMPARING, 7, 1, M + 16, 16), LAMPTASSEL_BLOCK_DIFFERS, 7, 0));
+    /* The third block has the escape and a wrong guard: stored it is not checked but compared, sent it is checked. */
+    CHECK(leaves_all(verify(&OF_M, COMPARING, 9, 1, data + 16, 8), LAMPTASSEL_GOOD, 0, 0));
+    CHECK(leaves_all(verify(&OF_M, COMPARING, 9, 1, data, 8), LAMPTASSEL_BLOCK_DIFFERS, 9, 0));
+    CHECK(leaves_all(verify(&OF_M, CODE_001 | COMPARING, 7, 2, M + 16, 32), LAMPTASSEL_GUARD_CHECK_FAILED, 8, 1));
+}
+
+/* READ (32), code 001, of M's first two blocks as type 2 with ATO 1: first tag 7, application tag 0001h, mask FFFFh.
+   VERIFY (32) of the first against itself and against the second: application tag 0000h. */
 static void long_command(void) {
     static const struct description TYPE_2 = {2, 8, 0, 7, 3, 1};
     static const uint8_t READ_32[32] = {0x7F, 0, 0, 0, 0, 0, 0, 0x18, 0, 9, 0x20, 0, 0, 0,    0,    0,
                                         0,    0, 0, 7, 0, 0, 0, 7,    0, 1, 0xFF, 0xFF, 0, 0, 0, 2};
-    refuses(on_m(&TYPE_2, READ_32, 32, NULL, 32), LAMPTASSEL_APPLICATION_CHECK_FAILED, 7, 0);
-    refuses(on_m(&OF_M, READ_32, 32, NULL, 32), LAMPTASSEL_OPERATION_INVALID, 0, 0);
+    static const uint8_t COMPARE_32[32] = {0x7F, 0, 0, 0, 0, 0, 0, 0x18, 0, 10, 0x22, 0, 0, 0,    0,    0,
+                                           0,    0, 0, 7, 0, 0, 0, 7,    0, 0,  0xFF, 0xFF, 0, 0, 0, 1};
+    CHECK(leaves_all(on_m(&TYPE_2, COMPARE_32, 32, M, 16), LAMPTASSEL_GOOD, 0, 0));
+    CHECK(leaves_all(on_m(&TYPE_2, COMPARE_32, 32, M + 16, 16), LAMPTASSEL_BLOCK_DIFFERS, 7, 0));
+    CHECK(leaves_all(on_m(&TYPE_2, READ_32, 32, NULL, 32), LAMPTASSEL_APPLICATION_CHECK_FAILED, 7, 0));
+    CHECK(leaves_all(on_m(&OF_M, READ_32, 32, NULL, 32), LAMPTASSEL_OPERATION_INVALID, 0, 0));
 }
 
 /* The address that comes back is not cut either. */
 static void wide_address(void) {
     static const struct description FAR = {1, 8, 0, (UINT64_C(1) << 40) + 7, 3, 0};
     static const uint8_t READ_16[16] = {0x88, 0x20, 0, 0, 1, 0, 0, 0, 0, 7, 0, 0, 0, 2, 0, 0};
-    refuses(on_m(&FAR, READ_16, 16, NULL, 32), LAMPTASSEL_REFERENCE_CHECK_FAILED, (UINT64_C(1) << 40) + 8, 1);
+    static const uint8_t COMPARE_16[16] = {0x8F, 0x62, 0, 0, 1, 0, 0, 0, 0, 7, 0, 0, 0, 2, 0, 0};
+    CHECK(leaves_all(on_m(&FAR, COMPARE_16, 16, NULL, 32), LAMPTASSEL_BLOCK_DIFFERS, (UINT64_C(1) << 40) + 7, 0));
+    CHECK(leaves_all(on_m(&FAR, READ_16, 16, NULL, 32), LAMPTASSEL_REFERENCE_CHECK_FAILED, (UINT64_C(1) << 40) + 8, 1));
 }
 
 static void descriptions(void) {
@@ -191,7 +256,7 @@ static void descriptions(void) {
     memcpy(before, out, sizeof out);
     for (size_t i = 0; i < ENTRIES(TOO_WIDE); i++) {
         const struct description *d = &TOO_WIDE[i];
-        refuses(on_m(d, READ_NOTHING, 10, NULL, 0), LAMPTASSEL_DESCRIPTION_BAD, 0, 0);
+        CHECK(leaves_all(on_m(d, READ_NOTHING, 10, NULL, 0), LAMPTASSEL_DESCRIPTION_BAD, 0, 0));
         CHECK(fill(TOLD(d), out, sizeof out) == LAMPTASSEL_DESCRIPTION_BAD);
         CHECK(parity(TOLD(d), 2, members, sizeof members, out, sizeof out) == LAMPTASSEL_DESCRIPTION_BAD);
         CHECK(rebuild(TOLD(d), 2, 0, parts, sizeof parts, out, sizeof out) == LAMPTASSEL_DESCRIPTION_BAD);
@@ -282,6 +347,9 @@ static void empty_buffers(void) {
     CHECK(execute(TOLD(&OF_M), bytes, 48, READ_TWO, 10, NULL, 0, &address, &place) == LAMPTASSEL_BUFFER_LENGTH_WRONG);
     CHECK(execute(TOLD(&OF_M), bytes, 48, READ_NOTHING, 10, NULL, 0, &address, &place) == LAMPTASSEL_GOOD);
     CHECK(execute(TOLD(&OF_M), bytes, 48, VERIFY_ONE, 10, NULL, 0, &address, &place) == LAMPTASSEL_GOOD);
+    CHECK(execute(TOLD(&OF_M), bytes, 48, COMPARE_NOTHING, 10, NULL, 0, &address, &place) == LAMPTASSEL_GOOD);
+    CHECK(execute(TOLD(&OF_M), bytes, 48, COMPARE_DATA, 10, NULL, 0, &address, &place) ==
+          LAMPTASSEL_BUFFER_LENGTH_WRONG);
     CHECK(fill(TOLD(&OF_M), NULL, 0) == LAMPTASSEL_SEGMENT_LENGTH_WRONG);
     CHECK(parity(TOLD(&OF_M), 1, NULL, 0, bytes, 48) == LAMPTASSEL_STRIPE_SHAPE_BAD);
     CHECK(parity(TOLD(&OF_M), 1, M, 48, NULL, 0) == LAMPTASSEL_STRIPE_SHAPE_BAD);
@@ -307,7 +375,7 @@ static void senses(void) {
         CHECK(sense(ANSWERS[i].number) == ANSWERS[i].sense);
         CHECK(sense(ANSWERS[i].number + BEYOND_32_BITS) == 0);
     }
-    CHECK(sense(15) == 0);
+    CHECK(sense(ANSWERS[ENTRIES(ANSWERS) - 1].number + 1) == 0);
 }
 
 #ifdef WITH_SYSTEM
@@ -328,8 +396,10 @@ static void on_page(uint8_t *segment, const uint8_t *command, uint8_t *buffer, s
 
 static const uint8_t READ_BARE[10] = {0x28, 0, 0, 0, 0, 7, 0, 0, 1, 0};
 static const uint8_t READ_WHOLE[10] = {0x28, 0x20, 0, 0, 0, 7, 0, 0, 1, 0};
+static const uint8_t COMPARE_WHOLE[10] = {0x2F, 0x22, 0, 0, 0, 7, 0, 0, 1, 0};
 
-/* A thread that READs and VERIFYs two segments in read-only memory, a right one and one with a wrong guard. */
+/* A thread that READs and VERIFYs two segments in read-only memory, a right one and one of the same data with a wrong
+   guard, and compares each with the other. */
 struct reader {
     uint8_t *right, *wrong, *buffer;
     int faults;
@@ -350,11 +420,14 @@ static void *reads(void *told) {
         r->faults += r->buffer[0] != UNTOUCHED || memcmp(r->buffer, r->buffer + 1, PAGE - 1) != 0;
         r->faults += !answers(r->right, READ_WHOLE, r->buffer, PAGE, LAMPTASSEL_GOOD);
         r->faults += memcmp(r->buffer, r->right, PAGE) != 0;
+        r->faults += !answers(r->right, COMPARE_WHOLE, r->buffer, PAGE, LAMPTASSEL_GOOD);
         memset(r->buffer, UNTOUCHED, PAGE);
         r->faults += !answers(r->right, READ_BARE, r->buffer, 4088, LAMPTASSEL_GOOD);
         r->faults += memcmp(r->buffer, r->right, 4088) != 0;
         r->faults += !answers(r->right, VERIFY_ONE, NULL, 0, LAMPTASSEL_GOOD);
         r->faults += !answers(r->wrong, VERIFY_ONE, NULL, 0, LAMPTASSEL_GUARD_CHECK_FAILED);
+        r->faults += !answers(r->right, COMPARE_DATA, r->wrong, 4088, LAMPTASSEL_GOOD);
+        r->faults += !answers(r->wrong, COMPARE_WHOLE, r->right, PAGE, LAMPTASSEL_BLOCK_DIFFERS);
     }
     return NULL;
 }
@@ -399,23 +472,30 @@ static void read_only_memory(void) {
     on_page(stored, VERIFY_ONE, NULL, 0, LAMPTASSEL_GOOD);
     on_page(lent, READ_BARE, other, 4088, LAMPTASSEL_GUARD_CHECK_FAILED);
     on_page(lent, VERIFY_ONE, NULL, 0, LAMPTASSEL_GUARD_CHECK_FAILED);
+    on_page(stored, COMPARE_DATA, lent, 4088, LAMPTASSEL_GOOD);
+    on_page(lent, COMPARE_WHOLE, stored, PAGE, LAMPTASSEL_BLOCK_DIFFERS);
+    CHECK(mprotect(other, PAGE, PROT_READ) == 0);
+    on_page(stored, COMPARE_WHOLE, other, PAGE, LAMPTASSEL_GOOD);
     side_by_side(stored, lent);
     munmap(lent, PAGE);
     munmap(stored, PAGE);
     munmap(other, PAGE);
 }
 
-/* The deepest calls: numbers of 19 digits are listed, a command judges and stores. */
+/* The deepest calls: numbers of 19 digits are listed, a command judges and stores, or judges and compares. */
 static void deep_calls(void) {
     static const uint8_t RECORD[35] = {0,    0,    0,    31,   1,    1,    0,    0, 8, 0x7F,
                                        0xFF, 0xFF, 0xFF, 0xFF, 0xFF, 0xFF, 0xFE, 0, 1};
-    static uint8_t out[256], segment[48];
+    static uint8_t out[256], segment[48], sent[16];
     static uint64_t address, place;
     memcpy(segment, M, sizeof M);
+    memcpy(sent, M, sizeof sent);
     list(RECORD, sizeof RECORD, out, sizeof out);
     execute(TOLD(&OF_M), segment, 48, WRITE_DATA, 10, out, 8, &address, &place);
     execute(TOLD(&OF_M), segment, 48, WRITE_THIRD, 10, out, 16, &address, &place);
     execute(TOLD(&OF_M), segment, 48, READ_TWO, 10, out, 32, &address, &place);
+    execute(TOLD(&OF_M), segment, 48, COMPARE_DATA, 10, sent, 8, &address, &place);
+    execute(TOLD(&OF_M), segment, 48, COMPARE_WHOLE, 10, sent, 16, &address, &place);
     fill(TOLD(&OF_M), segment, 48);
     parity(TOLD(&OF_ONE_BLOCK), 2, M, 32, out, 16);
     rebuild(TOLD(&OF_ONE_BLOCK), 2, 0, M, 48, out, 16);
@@ -456,6 +536,7 @@ int main(void) {
         stack();
 #endif
     commands();
+    comparisons();
     long_command();
     wide_address();
     descriptions();
