@@ -34,6 +34,7 @@ fn same_block(k: Cut, stored: &[u8], sent: &[u8]) -> bool
     ensures { λ r. ⌜ r ≡ same (partsOf k (k .pieces) (now (stored .entry))) (now (sent .entry)) ⌝ }
 {
     let size = k.size;
+    let stride = k.stride;
     let mut left = k.pieces;
     let mut i: usize = 0;
     let mut j: usize = 0;
@@ -43,7 +44,7 @@ fn same_block(k: Cut, stored: &[u8], sent: &[u8]) -> bool
         if !same(&stored[i..m], &sent[j..last]) {
             return false;
         }
-        i += k.stride;
+        i += stride;
         j = last;
         left -= 1;
     }
@@ -65,7 +66,9 @@ pub fn compare_blocks(k: Cut, address: u64, count: usize, stored: &[u8], sent: &
         let end = i + block;
         let last = j + each;
         if !same_block(k, &stored[i..end], &sent[j..last]) {
-            return Answer::BlockDiffers(address + (count - left) as u64);
+            let done = count - left;
+            let differs = address + done as u64;
+            return Answer::BlockDiffers(differs);
         }
         i = end;
         j = last;

@@ -65,10 +65,11 @@ fn cut(d: Description, c: Command) -> Cut
         };
     }
     let size = segment::size(d);
+    let stride = size + 8;
     Cut {
         pieces: segment::intervals(d),
         size,
-        stride: size + 8,
+        stride,
     }
 }
 

@@ -119,11 +119,11 @@ part-same-block-end-2 c = room (c .before .before .loop .inv) (c .before .loop-t
 same-block-requires : tie.Need-same-block-requires Inv-loop μ-loop
 same-block-requires c κs = one (c .before .before .before .loop .inv) (c .before .before .loop-test .taken)
 
-sub-t23 : tie.Need-sub-t23 Inv-loop μ-loop
-sub-t23 c = c .before .before .before .before .before .loop .inv .fewer
+sub-done : tie.Need-sub-done Inv-loop μ-loop
+sub-done c = omega (arith, c .before .before .before .before .before .loop .inv .fewer)
 
-add-t25 : tie.Need-add-t25 Inv-loop μ-loop
-add-t25 c = omega (arith, c .before .before .before .before .before .before .before .before .before .before .pre .1 .1)
+add-differs : tie.Need-add-differs Inv-loop μ-loop
+add-differs c = omega (arith, c .before .before .before .before .before .before .before .before .before .before .pre .1 .1)
 
 returns : tie.Need-returns Inv-loop μ-loop
 returns c =
@@ -154,8 +154,8 @@ compare-blocks-spec =
     (λ c. search needs) (λ c. search needs)
     part-same-block-end-2
     same-block-requires
-    sub-t23
-    add-t25
+    sub-done
+    add-differs
     returns
     (λ c. search needs) (λ c. search needs)
     loop-again

@@ -64,10 +64,10 @@ module _ {k : Cut} {stored sent : List ℕ} {left i j : ℕ} (g : Going k stored
         }
 
 abbrev Inv-loop : tie.InvT-loop
-Inv-loop k stored sent size left₀ i₀ j₀ left i j = Going k stored sent left i j
+Inv-loop stored sent size stride left₀ i₀ j₀ left i j = Going (record { pieces = left₀; size = size; stride = stride }) stored sent left i j
 
 abbrev μ-loop : tie.MeasureT-loop
-μ-loop k stored sent size left₀ i₀ j₀ left i j = left
+μ-loop stored sent size stride left₀ i₀ j₀ left i j = left
 
 loop-holds : tie.Need-loop-holds Inv-loop μ-loop
 loop-holds c = begins (c .before .before .pre)
@@ -98,13 +98,13 @@ returns c =
 
 add-i : tie.Need-add-i Inv-loop μ-loop
 add-i c =
-    let at = c .before .before .before .before .before in
+    let at = c .before .before .before .before in
     omega (arith, within (at .before .loop .inv) (at .loop-test .taken), at .before .before .before .before .good)
 
 loop-again : tie.Need-loop-again Inv-loop μ-loop
 loop-again c =
-    let at = c .before .before .before .before .before in
-    turn (at .before .loop .inv) (at .loop-test .taken) (c .before .before .same .ensures) (c .before .if1 .left)
+    let at = c .before .before .before .before in
+    turn (at .before .loop .inv) (at .loop-test .taken) (c .before .same .ensures) (c .if1 .left)
 
 returns-2 : tie.Need-returns-2 Inv-loop μ-loop
 returns-2 c = ends (c .before .loop .inv) (c .loop-test .left)

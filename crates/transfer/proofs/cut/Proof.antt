@@ -11,8 +11,8 @@ use Rattle.transfer.proofs.cut.Tie as tie
 returns : tie.Need-returns
 returns c = cut-whole _ _ (sym (c .before .before .whole .ensures) ∙ c .before .if1 .taken) _ (c .stored .ensures)
 
-add-t7 : tie.Need-add-t7
-add-t7 c = rw (c .before .size .ensures) (omega (arith, sizes _ (c .before .before .before .before .pre) .size-most))
+add-stride : tie.Need-add-stride
+add-stride c = rw (c .size .ensures) (omega (arith, sizes _ (c .before .before .before .pre) .size-most))
 
 returns-2 : tie.Need-returns-2
 returns-2 c =
@@ -24,6 +24,7 @@ cut-spec =
     (tie.spec
     (λ c κs. search needs) (λ c κs. search needs)
     returns
-    (λ c κs. search needs) (λ c κs. search needs)
-    add-t7
+    (λ c κs. search needs)
+    add-stride
+    (λ c κs. search needs)
     returns-2)
