@@ -1,4 +1,4 @@
-//! READ, WRITE and VERIFY on blocks of several sizes.
+//! READ, WRITE and VERIFY, also one that compares, on blocks of several sizes.
 
 use std::io;
 

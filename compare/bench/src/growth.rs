@@ -53,7 +53,7 @@ fn lines<const N: usize>(
                 blocks: start..start + moved,
             };
             lines.push(Line {
-                name: format!("{operation:6} {size:5}"),
+                name: format!("{operation:20} {size:5}"),
                 units,
                 limit: LIMIT,
                 job: Job::new(LENGTH, 0, count, request),

@@ -16,10 +16,17 @@ pub enum Operation {
     Read,
     Write,
     Verify,
+    /// VERIFY with byte-check bits 01b.
+    Compare,
 }
 
 impl Operation {
-    pub const ALL: [Operation; 3] = [Operation::Read, Operation::Write, Operation::Verify];
+    pub const ALL: [Operation; 4] = [
+        Operation::Read,
+        Operation::Write,
+        Operation::Verify,
+        Operation::Compare,
+    ];
 }
 
 impl Display for Operation {
@@ -28,6 +35,7 @@ impl Display for Operation {
             Operation::Read => "READ",
             Operation::Write => "WRITE",
             Operation::Verify => "VERIFY",
+            Operation::Compare => "VERIFY that compares",
         })
     }
 }
@@ -62,6 +70,8 @@ pub struct Job {
     lent: RefCell<Vec<u8>>,
     /// Where the transfer lies in it.
     moved: Range<usize>,
+    /// The buffer of a VERIFY that compares, which it does not change either.
+    sent: RefCell<Vec<u8>>,
     /// The bytes of what the command changes: the buffer, or the segment of a
     /// WRITE.
     changed: usize,
@@ -87,10 +97,15 @@ impl Job {
         let stored = block + (8 << exponent);
         let place = request.blocks.start * stored..request.blocks.end * stored;
         let brought = if request.code == 0 { block } else { stored } * transfer;
-        let segment = good_segment(&desc, count * stored);
+        let mut segment = good_segment(&desc, count * stored);
+        let mut sent = Vec::new();
         let (lent, moved, changed, written) = match request.operation {
             Operation::Read => (segment, place, brought, 0..brought),
             Operation::Verify => (segment, place, 0, 0..0),
+            Operation::Compare => {
+                sent = fetched(&desc, &request, &mut segment, brought);
+                (segment, place, 0, 0..0)
+            }
             Operation::Write if request.code == 0 => {
                 (noise(brought), 0..brought, segment.len(), place)
             }
@@ -105,10 +120,11 @@ impl Job {
             request,
             lent: RefCell::new(lent),
             moved,
+            sent: RefCell::new(sent),
             changed,
             written,
         };
-        let (results, _) = job.once(reference::execute);
+        let (results, ..) = job.once(reference::execute);
         assert!(results.ends_with(&[0; OUTCOME]), "the request is good");
         job
     }
@@ -117,10 +133,12 @@ impl Job {
     /// the last outcome.
     fn execute(&self, execute: Execute, times: usize, results: &mut [u8]) {
         let lent = &mut self.lent.borrow_mut()[..];
+        let sent = &mut self.sent.borrow_mut()[..];
         let (changed, last) = results.split_at_mut(self.changed);
         let (segment, buffer) = match self.request.operation {
             Operation::Write => (changed, lent),
             Operation::Read | Operation::Verify => (lent, changed),
+            Operation::Compare => (lent, sent),
         };
         let mut outcome = Outcome::from(0);
         for _ in 0..times {
@@ -131,22 +149,29 @@ impl Job {
     }
 
     /// Whether both give the same where all is well, and where the last byte of
-    /// user data of the transfer is another: then the fault is met last, or, by a
-    /// WRITE that brings no fields, stored.
+    /// user data of the transfer is another: then the fault or the difference is met
+    /// last, or, by a WRITE that brings no fields, stored. Where something is sent to
+    /// be compared, also if the last byte of that is another.
     pub fn agreed(&self) -> bool {
-        let last = self.moved.end - 9;
-        let well = self.once(archive::execute) == self.once(reference::execute);
-        self.lent.borrow_mut()[last] ^= 1;
-        let damaged = self.once(archive::execute) == self.once(reference::execute);
-        self.lent.borrow_mut()[last] ^= 1;
-        well && damaged
+        let same = || self.once(archive::execute) == self.once(reference::execute);
+        let same_with_another = |list: &RefCell<Vec<u8>>, at: usize| {
+            list.borrow_mut()[at] ^= 1;
+            let same = same();
+            list.borrow_mut()[at] ^= 1;
+            same
+        };
+        let sent = self.sent.borrow().len();
+        same()
+            && same_with_another(&self.lent, self.moved.end - 9)
+            && (sent == 0 || same_with_another(&self.sent, sent - 1))
     }
 
-    /// What the command leaves: all of both lists, and the outcome.
-    fn once(&self, execute: Execute) -> (Vec<u8>, Vec<u8>) {
+    /// What the command leaves: the outcome and all of each list.
+    fn once(&self, execute: Execute) -> (Vec<u8>, Vec<u8>, Vec<u8>) {
         let mut results = vec![0; self.changed + OUTCOME];
         self.execute(execute, 1, &mut results);
-        (results, self.lent.borrow().clone())
+        let [lent, sent] = [&self.lent, &self.sent].map(|list| list.borrow().clone());
+        (results, lent, sent)
     }
 
     /// The user data of the transfer.
@@ -223,23 +248,37 @@ fn good_segment(desc: &Description, length: usize) -> Vec<u8> {
     segment
 }
 
+/// What a READ with the request's code fetches: a VERIFY that compares finds it alike.
+fn fetched(desc: &Description, request: &Request, segment: &mut [u8], length: usize) -> Vec<u8> {
+    let read = Request {
+        operation: Operation::Read,
+        code: request.code,
+        blocks: request.blocks.clone(),
+    };
+    let mut buffer = vec![0; length];
+    let outcome = reference::execute(desc, segment, &command(desc, &read), &mut buffer);
+    assert_eq!(outcome.answer, 0, "a good segment is read");
+    buffer
+}
+
 /// The bytes of a command: 32 for type 2, else 16.
 fn command(desc: &Description, request: &Request) -> Vec<u8> {
     let address = (desc.w + request.blocks.start as u64).to_be_bytes();
     let length = (request.blocks.len() as u32).to_be_bytes();
-    let protect = request.code << 5;
+    let byte_check = u8::from(request.operation == Operation::Compare);
+    let protect = request.code << 5 | byte_check << 1;
     if desc.p != 2 {
         let operation = match request.operation {
             Operation::Read => 0x88,
             Operation::Write => 0x8A,
-            Operation::Verify => 0x8F,
+            Operation::Verify | Operation::Compare => 0x8F,
         };
         return [&[operation, protect], &address[..], &length, &[0, 0]].concat();
     }
     let action = match request.operation {
         Operation::Read => 0x09,
         Operation::Write => 0x0B,
-        Operation::Verify => 0x0A,
+        Operation::Verify | Operation::Compare => 0x0A,
     };
     let passed = (request.blocks.start as u32) << desc.e;
     [

@@ -5,9 +5,16 @@ pub enum Operation {
     Read,
     Write,
     Verify,
+    /// VERIFY with byte-check bits 01b.
+    Compare,
 }
 
-pub const OPERATIONS: [Operation; 3] = [Operation::Read, Operation::Write, Operation::Verify];
+pub const OPERATIONS: [Operation; 4] = [
+    Operation::Read,
+    Operation::Write,
+    Operation::Verify,
+    Operation::Compare,
+];
 pub const SIZES: [usize; 4] = [10, 12, 16, 32];
 
 /// A command of `size` bytes; the last three numbers stand in 32 bytes alone.
@@ -30,7 +37,8 @@ impl Command {
         let mut put = |from: usize, to: usize, number: u64| {
             out[from..to].copy_from_slice(&number.to_be_bytes()[8 - (to - from)..]);
         };
-        let protect = u64::from(self.code) << 5;
+        let byte_check = u64::from(self.operation == Operation::Compare);
+        let protect = u64::from(self.code) << 5 | byte_check << 1;
         let length = u64::from(self.length);
         match self.size {
             32 => {
@@ -61,17 +69,17 @@ impl Command {
     /// Byte 0, or the service action of 32 bytes.
     fn action(&self) -> u64 {
         let row = match self.size {
-            10 => [0x28, 0x2A, 0x2F],
-            12 => [0xA8, 0xAA, 0xAF],
-            16 => [0x88, 0x8A, 0x8F],
-            _ => [0x09, 0x0B, 0x0A],
+            10 => [0x28, 0x2A, 0x2F, 0x2F],
+            12 => [0xA8, 0xAA, 0xAF, 0xAF],
+            16 => [0x88, 0x8A, 0x8F, 0x8F],
+            _ => [0x09, 0x0B, 0x0A, 0x0A],
         };
         row[self.operation as usize]
     }
 
     /// Whether the buffer's blocks come with their fields and are judged.
     pub fn judges_buffer(&self) -> bool {
-        self.operation == Operation::Write && self.code != 0
+        matches!(self.operation, Operation::Write | Operation::Compare) && self.code != 0
     }
 
     /// The place of the protect byte.

@@ -1,6 +1,7 @@
 //! Calls for READ, WRITE and VERIFY.
 
 mod any;
+pub mod differences;
 mod each;
 pub mod large;
 pub mod order;

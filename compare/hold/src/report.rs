@@ -4,8 +4,8 @@ use std::fmt;
 
 use crate::call::Function;
 
-/// Answer numbers 0 to 14.
-const NUMBERS: usize = 15;
+/// Answer numbers 0 to 15.
+const NUMBERS: usize = 16;
 
 #[derive(Default)]
 pub struct Tally {

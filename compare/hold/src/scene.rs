@@ -1,5 +1,7 @@
 //! A command on a segment with its buffer.
 
+use std::ops::Range;
+
 use reference::Description;
 
 use crate::call::{Call, Function};
@@ -16,8 +18,8 @@ pub struct Scene {
 }
 
 impl Scene {
-    /// A scene in which every interval is as the command expects it and every
-    /// length is right. The description must be good.
+    /// A scene in which every interval is as the command expects it, what is
+    /// compared is alike, and every length is right. The description must be good.
     pub fn right(desc: Description, command: Command, numbers: &mut Numbers) -> Self {
         let known = known(&desc, &command);
         let offset = command.address.wrapping_sub(desc.w) << desc.e;
@@ -30,7 +32,7 @@ impl Scene {
             tags(known.wrapping_sub(offset as u32)),
             numbers,
         );
-        let buffer = incoming(&desc, &command, tags(known), numbers);
+        let buffer = incoming(&desc, &command, &segment, tags(known), numbers);
         Scene {
             desc,
             command,
@@ -48,7 +50,7 @@ impl Scene {
         };
         Scene {
             command,
-            buffer: incoming(&self.desc, &command, tags, numbers),
+            buffer: incoming(&self.desc, &command, &self.segment, tags, numbers),
             ..self.clone()
         }
     }
@@ -80,6 +82,21 @@ impl Scene {
         }
     }
 
+    /// The bytes of the transfer that a command compares with those that are judged;
+    /// none if it compares nothing.
+    pub fn compared(&mut self) -> &mut [u8] {
+        match own(&self.desc, &self.command) {
+            Some(own) if self.command.operation == Operation::Compare => {
+                if self.command.judges_buffer() {
+                    &mut self.segment[own]
+                } else {
+                    &mut self.buffer
+                }
+            }
+            _ => &mut [],
+        }
+    }
+
     /// The place of an interval in the judged bytes, from the transfer's first.
     pub fn interval(&self, place: usize) -> usize {
         let sizes = Intervals::of(&self.desc);
@@ -101,14 +118,42 @@ fn known(desc: &Description, command: &Command) -> u32 {
     }
 }
 
-/// The buffer's bytes, right in every field where there are any.
-fn incoming(desc: &Description, command: &Command, tags: Tags, numbers: &mut Numbers) -> Vec<u8> {
+/// Where the transfer's blocks stand in the segment, if they do.
+fn own(desc: &Description, command: &Command) -> Option<Range<usize>> {
+    let start = command.address.checked_sub(desc.w)?;
+    let end = start.checked_add(command.length.into())?;
+    let stored = Intervals::of(desc).stored();
+    (end <= desc.n).then(|| start as usize * stored..end as usize * stored)
+}
+
+/// The buffer's bytes, right in every field where there are any; those that are
+/// compared are the segment's.
+fn incoming(
+    desc: &Description,
+    command: &Command,
+    segment: &[u8],
+    tags: Tags,
+    numbers: &mut Numbers,
+) -> Vec<u8> {
     let count = u64::from(command.length).min(desc.n);
-    if command.judges_buffer() {
-        blocks(desc, count, tags, numbers)
-    } else {
-        numbers.data(buffer_length(desc, command, count))
+    match own(desc, command) {
+        Some(own) if command.operation == Operation::Compare => sent(desc, command, &segment[own]),
+        _ if command.judges_buffer() => blocks(desc, count, tags, numbers),
+        _ => numbers.data(buffer_length(desc, command, count)),
     }
+}
+
+/// What a command brings that finds these blocks alike.
+fn sent(desc: &Description, command: &Command, blocks: &[u8]) -> Vec<u8> {
+    if command.code != 0 {
+        return blocks.to_vec();
+    }
+    let sizes = Intervals::of(desc);
+    let mut out = Vec::with_capacity(blocks.len());
+    for interval in blocks.chunks_exact(sizes.step) {
+        out.extend_from_slice(&interval[..sizes.data]);
+    }
+    out
 }
 
 /// The bytes that `count` blocks have in the buffer.

@@ -17,10 +17,10 @@ pub type Put<'a> = &'a mut dyn FnMut(Call) -> Held;
 /// A part of the systematic calls.
 pub type Part = fn(Put<'_>) -> Held;
 
-/// Every limit, length, code, fault, escape and lost part by itself, what is refused
-/// in pairs, and great numbers. No part needs another, so that they can run side by
-/// side: the longest come first.
-pub const PARTS: [(&str, Part); 15] = [
+/// Every limit, length, code, fault, difference, escape and lost part by itself, what
+/// is refused in pairs, and great numbers. No part needs another, so that they can run
+/// side by side: the longest come first.
+pub const PARTS: [(&str, Part); 16] = [
     ("executes::large::most", executes::large::most),
     ("executes::large::each", executes::large::each),
     ("stripes::most", stripes::most),
@@ -30,6 +30,7 @@ pub const PARTS: [(&str, Part); 15] = [
     ("listings::large", listings::large),
     ("stripes::large", stripes::large),
     ("executes::order::each", executes::order::each),
+    ("executes::differences::each", executes::differences::each),
     ("listings::each", listings::each),
     ("listings::pairs", listings::pairs),
     ("formats::each", formats::each),

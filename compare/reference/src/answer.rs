@@ -15,9 +15,11 @@ pub const STRIPE_BAD: u64 = 11;
 pub const PARAMETER_INVALID: u64 = 12;
 pub const RECORD_BAD: u64 = 13;
 pub const TRANSFER_TOO_LONG: u64 = 14;
+pub const BLOCK_DIFFERS: u64 = 15;
 
 /// The answer to a command. Numbers 8 to 10 also give the block's address and
-/// the interval's place in the transfer; all others give 0 and 0.
+/// the interval's place in the transfer, number 15 the block's address and place
+/// 0; all others give 0 and 0.
 #[derive(Clone, Copy, Debug, PartialEq, Eq)]
 pub struct Outcome {
     pub answer: u64,
@@ -45,6 +47,7 @@ pub fn sense(answer: u64) -> Option<(u8, u8, u8)> {
         APPLICATION_FAILED => Some((0x0B, 0x10, 0x02)),
         REFERENCE_FAILED => Some((0x0B, 0x10, 0x03)),
         PARAMETER_INVALID => Some((0x05, 0x26, 0x00)),
+        BLOCK_DIFFERS => Some((0x0E, 0x1D, 0x00)),
         _ => None,
     }
 }

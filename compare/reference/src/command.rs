@@ -30,6 +30,13 @@ pub(crate) struct Command {
     pub expected: Option<Expected>,
 }
 
+impl Command {
+    /// Whether this is a VERIFY that compares with the data sent.
+    pub fn compares(&self) -> bool {
+        self.operation == Operation::Verify && self.byte_check == 0b01
+    }
+}
+
 /// Takes a command apart, or refuses it for what its own bytes say up to and
 /// with byte 7 of the 32-byte form: empty 3; byte 0 not served 5; for 7Fh,
 /// fewer than 10 bytes 3 and service action not served 5; length not the

@@ -1,11 +1,11 @@
-//! READ, WRITE and VERIFY: what refuses a command, judging, and moving.
+//! READ, WRITE and VERIFY: what refuses a command, judging, comparing, and moving.
 //!
-//! All of a transfer is judged before the first byte moves.
+//! All of a transfer is judged before the first byte moves or is compared.
 
 use crate::answer::{
-    ADDRESS_OUT_OF_RANGE, APPLICATION_FAILED, BUFFER_LENGTH_WRONG, DESCRIPTION_BAD, FIELD_INVALID,
-    GOOD, GUARD_FAILED, OPERATION_INVALID, Outcome, REFERENCE_FAILED, SEGMENT_LENGTH_WRONG,
-    TRANSFER_TOO_LONG,
+    ADDRESS_OUT_OF_RANGE, APPLICATION_FAILED, BLOCK_DIFFERS, BUFFER_LENGTH_WRONG, DESCRIPTION_BAD,
+    FIELD_INVALID, GOOD, GUARD_FAILED, OPERATION_INVALID, Outcome, REFERENCE_FAILED,
+    SEGMENT_LENGTH_WRONG, TRANSFER_TOO_LONG,
 };
 use crate::command::{Command, Operation, decode};
 use crate::guard::guard;
@@ -43,11 +43,20 @@ fn attempt(
     let end = start + command.length as usize * shape.stored;
     let blocks = &mut segment[start..end];
     let checks = checks(desc, &command);
+    let judge = |origin, blocks: &[u8]| judge(&shape, &command, &checks, origin, blocks);
 
     match command.operation {
-        Operation::Verify => judge(&shape, &command, &checks, blocks),
+        Operation::Verify if !command.compares() => judge(Origin::Stored, blocks),
+        Operation::Verify if command.code == 0 => {
+            judge(Origin::Stored, blocks)?;
+            refuse_different(&command, different_data(&shape, blocks, buffer))
+        }
+        Operation::Verify => {
+            judge(Origin::Incoming, buffer)?;
+            refuse_different(&command, different_block(&shape, blocks, buffer))
+        }
         Operation::Read => {
-            judge(&shape, &command, &checks, blocks)?;
+            judge(Origin::Stored, blocks)?;
             if command.code == 0 {
                 take_data(&shape, blocks, buffer);
             } else {
@@ -60,7 +69,7 @@ fn attempt(
             Ok(())
         }
         Operation::Write => {
-            judge(&shape, &command, &checks, buffer)?;
+            judge(Origin::Incoming, buffer)?;
             blocks.copy_from_slice(buffer);
             Ok(())
         }
@@ -79,7 +88,7 @@ fn admit(desc: &Description, shape: &Shape, command: &Command, buffer: usize) ->
     if command.code >= 0b110 {
         return Err(FIELD_INVALID);
     }
-    if command.operation == Operation::Verify && command.byte_check != 0 {
+    if command.operation == Operation::Verify && command.byte_check > 0b01 {
         return Err(FIELD_INVALID);
     }
     let end = u128::from(command.address) + u128::from(command.length);
@@ -87,8 +96,9 @@ fn admit(desc: &Description, shape: &Shape, command: &Command, buffer: usize) ->
         return Err(ADDRESS_OUT_OF_RANGE);
     }
     // The bytes of a transfer are taken to be those its code moves, T × B with
-    // 000 and T × S otherwise, for VERIFY too. T is at most 65,536 here and S
-    // at most 4,160, so no description reaches this refusal.
+    // 000 and T × S otherwise, for a VERIFY that compares nothing too. T is at
+    // most 65,536 here and S at most 4,160, so no description reaches this
+    // refusal.
     let each = if command.code == 0 {
         shape.block
     } else {
@@ -99,8 +109,8 @@ fn admit(desc: &Description, shape: &Shape, command: &Command, buffer: usize) ->
         return Err(TRANSFER_TOO_LONG);
     }
     let wanted = match command.operation {
-        Operation::Verify => 0,
-        Operation::Read | Operation::Write => bytes,
+        Operation::Verify if !command.compares() => 0,
+        _ => bytes,
     };
     if buffer as u64 != wanted {
         return Err(BUFFER_LENGTH_WRONG);
@@ -159,17 +169,31 @@ fn known_reference(desc: &Description, command: &Command) -> Option<u32> {
     }
 }
 
+/// Where judged blocks are from.
+#[derive(Clone, Copy, PartialEq, Eq)]
+enum Origin {
+    Stored,
+    /// What comes in has no escape. The escape is said to be there on READ and
+    /// VERIFY only, but a VERIFY checks what comes in as a WRITE does.
+    Incoming,
+}
+
 /// Judges the transfer's blocks and names the first wrong interval: guard,
 /// application, reference, in that order within one interval. The expected
 /// reference tag moves on past the intervals of an escaped block as well.
-fn judge(shape: &Shape, command: &Command, checks: &Checks, blocks: &[u8]) -> Result<(), Outcome> {
+fn judge(
+    shape: &Shape,
+    command: &Command,
+    checks: &Checks,
+    origin: Origin,
+    blocks: &[u8],
+) -> Result<(), Outcome> {
     if !checks.any() {
         return Ok(());
     }
-    let stored_blocks = command.operation != Operation::Write;
     let mut expected = checks.reference.unwrap_or(0);
     for (block, number) in blocks.chunks_exact(shape.stored).zip(0..) {
-        if stored_blocks && shape.escaped(block) {
+        if origin == Origin::Stored && shape.escaped(block) {
             expected = expected.wrapping_add(shape.intervals as u32);
             continue;
         }
@@ -207,6 +231,36 @@ fn fault(shape: &Shape, checks: &Checks, expected: u32, interval: &[u8]) -> Opti
         return Some(REFERENCE_FAILED);
     }
     None
+}
+
+/// The first stored block whose user data differs from that in a buffer of data
+/// alone, counted from the transfer's first. The escape is about checks: escaped
+/// blocks are compared as all others are.
+fn different_data(shape: &Shape, blocks: &[u8], buffer: &[u8]) -> Option<usize> {
+    let intervals = blocks.chunks_exact(shape.step);
+    let mut pairs = buffer.chunks_exact(shape.data).zip(intervals);
+    let place = pairs.position(|(data, interval)| *data != interval[..shape.data])?;
+    Some(place / shape.intervals)
+}
+
+/// The first stored block that differs from the one sent, fields included,
+/// counted from the transfer's first.
+fn different_block(shape: &Shape, blocks: &[u8], buffer: &[u8]) -> Option<usize> {
+    let sent = buffer.chunks_exact(shape.stored);
+    let mut pairs = blocks.chunks_exact(shape.stored).zip(sent);
+    pairs.position(|(block, sent)| block != sent)
+}
+
+/// Refuses for the first differing block, if there is one.
+fn refuse_different(command: &Command, first: Option<usize>) -> Result<(), Outcome> {
+    match first {
+        Some(number) => Err(Outcome {
+            answer: BLOCK_DIFFERS,
+            address: command.address + number as u64,
+            place: 0,
+        }),
+        None => Ok(()),
+    }
 }
 
 /// Copies the user data of stored blocks into a buffer of data alone.

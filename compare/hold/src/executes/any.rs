@@ -3,7 +3,7 @@
 use reference::Description;
 
 use crate::call::Call;
-use crate::command::{Command, OPERATIONS, SIZES};
+use crate::command::{Command, OPERATIONS, Operation, SIZES};
 use crate::numbers::Numbers;
 use crate::scene::{Scene, buffer_length};
 use crate::segment::{Intervals, any_good, spoil, stretch};
@@ -14,6 +14,9 @@ pub fn any(numbers: &mut Numbers) -> Call {
     let mut scene = Scene::right(desc, command, numbers);
     for _ in 0..numbers.pick(&[0, 0, 0, 1, 1, 2, 4]) {
         spoil_intervals(&mut scene, numbers);
+    }
+    if scene.command.operation == Operation::Compare {
+        spoil_compared(&mut scene, numbers);
     }
     while numbers.once_in(4) {
         spoil_scene(&mut scene, numbers);
@@ -86,11 +89,26 @@ fn spoil_intervals(scene: &mut Scene, numbers: &mut Numbers) {
         2 => {
             let (from, to) = numbers.pick(&[(0, 2), (2, 4), (4, 8), (2, 8), (0, 8)]);
             fields[from..to].fill(0xFF);
+            // A wrong guard beside them shows whether they are marks of an escape.
+            if numbers.once_in(2) {
+                fields[0] ^= 1;
+            }
         }
         _ => {
             let (from, to) = numbers.pick(&[(0, 2), (2, 4), (2, 4), (4, 8)]);
             fields[from..to].fill(numbers.pick(&[0x00, 0xFE, 0x7F]));
         }
+    }
+}
+
+/// What is stored is sent as it has become, and another bit in what is compared.
+fn spoil_compared(scene: &mut Scene, numbers: &mut Numbers) {
+    if numbers.once_in(4) {
+        *scene = scene.again(scene.command, numbers);
+    }
+    let compared = scene.compared();
+    if !compared.is_empty() && numbers.once_in(3) {
+        compared[numbers.place(compared.len())] ^= 1 << numbers.below(8);
     }
 }
 

@@ -63,7 +63,7 @@ pub fn kinds() -> Vec<(Description, Command)> {
 }
 
 /// The kinds that no rule of type or code refuses.
-fn served() -> impl Iterator<Item = (Description, Command)> {
+pub fn served() -> impl Iterator<Item = (Description, Command)> {
     kinds().into_iter().filter(|(desc, command)| {
         let long = command.size == 32;
         match desc.p {
@@ -263,13 +263,13 @@ fn every_service_action(numbers: &mut Numbers, put: Put<'_>) -> Held {
     Ok(())
 }
 
-/// Each protect byte: each code with each of the bits beside it.
+/// Each protect byte: each code with each value of the bits beside it.
 fn every_protect_byte(numbers: &mut Numbers, put: Put<'_>) -> Held {
     for (desc, command) in kinds() {
         let scene = Scene::right(desc, command, numbers);
         for low in 0..32 {
             let mut bytes = command.bytes();
-            bytes[command.protect_place()] |= low;
+            bytes[command.protect_place()] ^= low;
             put(scene.call_by(&bytes))?;
         }
     }

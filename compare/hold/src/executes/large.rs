@@ -78,6 +78,55 @@ fn put_with_last_wrong(scene: &Scene, put: Put<'_>) -> Held {
     put(scene.into_call())
 }
 
+/// If the scene compares: a difference in the last byte of the last block, where no
+/// check sees it.
+fn put_different(mut scene: Scene, put: Put<'_>) -> Held {
+    match scene.compared().last_mut() {
+        Some(byte) => {
+            *byte ^= 1;
+            put(scene.into_call())
+        }
+        None => Ok(()),
+    }
+}
+
+/// If the scene compares: it again with its code and with 000.
+fn comparing(scene: &Scene, numbers: &mut Numbers) -> impl Iterator<Item = Scene> {
+    let codes = match (scene.command.operation, scene.command.code) {
+        (Operation::Compare, 0) => vec![0],
+        (Operation::Compare, code) => vec![code, 0],
+        _ => vec![],
+    };
+    codes.into_iter().map(|code| {
+        let command = Command {
+            code,
+            ..scene.command
+        };
+        scene.again(command, numbers)
+    })
+}
+
+/// If the scene compares: a difference in its last block, with its code and with 000.
+fn put_with_last_different(scene: &Scene, numbers: &mut Numbers, put: Put<'_>) -> Held {
+    comparing(scene, numbers).try_for_each(|scene| put_different(scene, put))
+}
+
+/// If the scene compares: a difference in its first block and a fault in its last one,
+/// which comes first all the same, with its code and with 000.
+fn put_with_last_wrong_and_first_different(
+    scene: &Scene,
+    numbers: &mut Numbers,
+    put: Put<'_>,
+) -> Held {
+    comparing(scene, numbers).try_for_each(|mut scene| {
+        let intervals = scene.command.length as usize * Intervals::of(&scene.desc).each;
+        let last = scene.interval(intervals - 1);
+        scene.judged()[last] ^= 1;
+        scene.compared()[0] ^= 1;
+        put(scene.into_call())
+    })
+}
+
 /// Lengths of segment, command and buffer that are right only if they, or N × S or
 /// T × B or T × S, are cut to some number of bits.
 pub fn every_cut(put: Put<'_>) -> Held {
@@ -173,7 +222,9 @@ pub fn every_length(put: Put<'_>) -> Held {
                         code,
                         ..command
                     };
-                    put(Scene::right(desc, command, numbers).into_call())?;
+                    let scene = Scene::right(desc, command, numbers);
+                    put(scene.call())?;
+                    put_with_last_different(&scene, numbers, put)?;
                 }
             }
         }
@@ -181,8 +232,9 @@ pub fn every_length(put: Put<'_>) -> Held {
     Ok(())
 }
 
-/// Great blocks with a fault of each kind in the second of two: in the first byte of
-/// its last interval, the middle one, the last one, and in each field.
+/// Great blocks with a difference in the second of two, and with a fault of each kind:
+/// in the first byte of its last interval, the middle one, the last one, and in each
+/// field.
 pub fn every_block_length(put: Put<'_>) -> Held {
     let numbers = &mut Numbers::new(28);
     for (p, e) in SHAPES {
@@ -191,12 +243,22 @@ pub fn every_block_length(put: Put<'_>) -> Held {
                 let desc = described(p, e, b, 3);
                 let scene = Scene::right(desc, at(&desc, operation, 1, 2), numbers);
                 put_with_last_wrong(&scene, put)?;
+                put_with_last_different(&scene, numbers, put)?;
                 let sizes = Intervals::of(&desc);
                 let interval = scene.interval(2 * sizes.each - 1);
                 for at in [0, sizes.data / 2, sizes.data - 1] {
                     let mut scene = scene.clone();
                     scene.judged()[interval + at] ^= 0x10;
                     put(scene.into_call())?;
+                }
+                // The first byte of the second of two blocks, and its middle one.
+                for quarters in [2, 3] {
+                    let mut scene = scene.clone();
+                    let compared = scene.compared();
+                    if let Some(byte) = compared.get_mut(quarters * compared.len() / 4) {
+                        *byte ^= 0x10;
+                        put(scene.into_call())?;
+                    }
                 }
             }
         }
@@ -205,7 +267,7 @@ pub fn every_block_length(put: Put<'_>) -> Held {
 }
 
 /// Two blocks about each power of two, and the last ones that there may be, with a
-/// fault of each kind in the second: its address is great.
+/// fault of each kind or a difference in the second: its address is great.
 pub fn every_address(put: Put<'_>) -> Held {
     let numbers = &mut Numbers::new(26);
     let powers = (1..=62).flat_map(|bits| [(1 << bits) - 2, 1 << bits]);
@@ -246,13 +308,16 @@ fn every_size_at(
             code,
             ..command
         };
-        put_with_last_wrong(&Scene::right(*desc, command, numbers), put)?;
+        let scene = Scene::right(*desc, command, numbers);
+        put_with_last_wrong(&scene, put)?;
+        put_with_last_different(&scene, numbers, put)?;
     }
     Ok(())
 }
 
 /// Each type and exponent with great counts, all blocks moved, and a fault of each
-/// kind in the last interval: its place and its block's address are great.
+/// kind in the last interval, or a difference in its block: its place and its block's
+/// address are great. Also a fault there and a difference in the first block.
 pub fn every_count(put: Put<'_>) -> Held {
     let numbers = &mut Numbers::new(23);
     for (p, e) in SHAPES {
@@ -261,6 +326,8 @@ pub fn every_count(put: Put<'_>) -> Held {
                 let desc = described(p, e, 8, n);
                 let scene = Scene::right(desc, at(&desc, operation, 0, n), numbers);
                 put_with_last_wrong(&scene, put)?;
+                put_with_last_different(&scene, numbers, put)?;
+                put_with_last_wrong_and_first_different(&scene, numbers, put)?;
             }
         }
     }
@@ -292,7 +359,9 @@ fn every_way_from(
     put: Put<'_>,
 ) -> Held {
     let command = at(&all.desc, operation, start, 2);
-    put_with_last_wrong(&all.again(command, numbers), put)?;
+    let scene = all.again(command, numbers);
+    put_with_last_wrong(&scene, put)?;
+    put_with_last_different(&scene, numbers, put)?;
     let without = Command { code: 0, ..command };
     put(all.again(without, numbers).into_call())
 }
@@ -309,7 +378,9 @@ pub fn more_than_24_bits(put: Put<'_>) -> Held {
             for code in [0, u8::from(p != 0)] {
                 let command = at(&desc, operation, 0, n);
                 let command = Command { code, ..command };
-                put(all.again(command, numbers).into_call())?;
+                let scene = all.again(command, numbers);
+                put(scene.call())?;
+                put_different(scene, put)?;
             }
         }
     }
@@ -328,16 +399,20 @@ pub fn most(put: Put<'_>) -> Held {
         let without = Command { code: 0, ..command };
         put(all.again(without, numbers).into_call())?;
     }
-    for operation in [Operation::Read, Operation::Write] {
+    for operation in [Operation::Read, Operation::Write, Operation::Compare] {
         let command = at(&desc, operation, 0, desc.n);
         put(all
             .again(Command { code: 0, ..command }, numbers)
             .into_call())?;
     }
-    // The last interval's reference tag, of the blocks and then of those coming in.
+    // The last interval's reference tag, of the blocks, of those compared with right
+    // ones, and then of those coming in.
     let last = all.segment.len() - 1;
     all.segment[last] ^= 1;
     put(all.call())?;
+    let mut differing = all.again(at(&desc, Operation::Compare, 0, desc.n), numbers);
+    differing.buffer[last] ^= 1;
+    put(differing.into_call())?;
     all.command = at(&desc, Operation::Write, 0, desc.n);
     all.buffer = all.segment.clone();
     put(all.into_call())

@@ -50,8 +50,10 @@ impl Wrong {
 
 /// What may be wrong, from nothing and what is refused last to what is refused
 /// first: what is told from a command's bytes comes before what cuts them.
-const LAST_TO_FIRST: [Wrong; 32] = [
+const LAST_TO_FIRST: [Wrong; 34] = [
     InScene(|_| {}),
+    InScene(|scene| differ(scene.compared().first_mut())),
+    InScene(|scene| differ(scene.compared().last_mut())),
     InScene(|scene| spoil_field(scene, 4)),
     InScene(|scene| spoil_field(scene, 2)),
     InScene(|scene| spoil_field(scene, 0)),
@@ -84,6 +86,13 @@ const LAST_TO_FIRST: [Wrong; 32] = [
     InScene(|scene| scene.desc.w = 1 << 63),
     InScene(|scene| scene.desc.ato = 2),
 ];
+
+/// Another bit in a byte that is compared, if there is one.
+fn differ(byte: Option<&mut u8>) {
+    if let Some(byte) = byte {
+        *byte ^= 0x40;
+    }
+}
 
 /// A wrong bit in a field of the first interval that is judged; in type 0, which has
 /// none, in its data.

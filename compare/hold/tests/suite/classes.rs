@@ -152,17 +152,17 @@ fn a_record_refused_with_2_before_1() {
 }
 
 /// A command's words, of those that are served and have the right length.
-struct Words {
+pub struct Words {
     /// READ 0, WRITE 1, VERIFY 2.
-    operation: u8,
-    address: u64,
-    length: u64,
+    pub operation: u8,
+    pub address: u64,
+    pub length: u64,
     /// Where T stands in the bytes.
-    place: std::ops::Range<usize>,
+    pub place: std::ops::Range<usize>,
 }
 
 impl Words {
-    fn of(command: &[u8]) -> Option<Self> {
+    pub fn of(command: &[u8]) -> Option<Self> {
         let (at, place) = match command.len() {
             10 => (2..6, 7..9),
             12 => (2..6, 6..10),
@@ -222,7 +222,7 @@ fn address_is_low(call: &Passing<'_>) -> bool {
 }
 
 /// S of a description that the library has found good.
-fn stored(call: &Passing<'_>) -> usize {
+pub fn stored(call: &Passing<'_>) -> usize {
     let fields = if call.numbers[0] == 0 {
         0
     } else {

@@ -2,6 +2,7 @@
 //! found.
 
 mod classes;
+mod compares;
 mod library;
 mod outside;
 mod planted;

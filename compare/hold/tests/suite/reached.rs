@@ -67,6 +67,7 @@ fn an_answer_that_was_not_reached_is_named() {
     assert!(amiss.contains(&"format did not reach answer 6".into()));
     assert!(!amiss.contains(&"format did not reach answer 12".into()));
     assert!(amiss.contains(&"execute did not reach answer 10".into()));
+    assert!(amiss.contains(&"execute did not reach answer 15".into()));
     assert!(amiss.contains(&"guard was not called".into()));
 }
 

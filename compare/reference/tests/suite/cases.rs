@@ -89,6 +89,7 @@ fn the_sense_of_each_answer() {
             9 => Some((0x0B, 0x10, 0x02)),
             10 => Some((0x0B, 0x10, 0x03)),
             12 => Some((0x05, 0x26, 0x00)),
+            15 => Some((0x0E, 0x1D, 0x00)),
             _ => None,
         };
         assert_eq!(sense(number), wanted, "answer {number}");

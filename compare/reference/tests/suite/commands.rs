@@ -117,23 +117,27 @@ fn byte_check_bits() {
                 for bits in 0..32u8 {
                     let command = Cdb {
                         first: 7,
+                        byte_check: bits >> 1 & 3,
                         ..cdb(operation, size, 0, 7, 1)
                     };
                     let mut laid = command.bytes();
                     laid[if size == 32 { 10 } else { 1 }] |= bits;
-                    let refused = operation == VERIFY && bits & 0b110 != 0;
                     let buffer = right_length(&desc, &command);
-                    let wanted = if refused { 6 } else { 0 };
-                    assert_eq!(raw(&desc, &segment, &laid, buffer), wanted);
+                    // What is sent is not what is stored.
+                    let (near, far) = match (operation, command.byte_check) {
+                        (READ | WRITE, _) | (_, 0b00) => (0, 7),
+                        (_, 0b01) => (15, 7),
+                        _ => (6, 6),
+                    };
+                    assert_eq!(raw(&desc, &segment, &laid, buffer), near);
                     // They come before the address.
-                    let far = Cdb {
+                    let low = Cdb {
                         address: 6,
                         ..command
                     };
-                    let mut laid = far.bytes();
+                    let mut laid = low.bytes();
                     laid[if size == 32 { 10 } else { 1 }] |= bits;
-                    let wanted = if refused { 6 } else { 7 };
-                    assert_eq!(raw(&desc, &segment, &laid, buffer), wanted);
+                    assert_eq!(raw(&desc, &segment, &laid, buffer), far);
                 }
             }
         }

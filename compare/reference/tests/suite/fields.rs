@@ -5,19 +5,19 @@ use reference::{Description, guard};
 use crate::support::*;
 
 /// Where the fields of the interval at a place begin.
-fn fields_at(desc: &Description, place: usize) -> usize {
+pub fn fields_at(desc: &Description, place: usize) -> usize {
     let data = (desc.b >> desc.e) as usize;
     place * (data + 8) + data
 }
 
 /// The description of the tests here, of a type, with two intervals a block
 /// where the type allows them.
-fn shape(p: u64, ato: u64) -> Description {
+pub fn shape(p: u64, ato: u64) -> Description {
     describe(p, 16, if p < 2 { 0 } else { 1 }, 100, 4, ato)
 }
 
 /// A segment of right tags for a command at 101, expected first tag 5.
-fn right(desc: &Description) -> Vec<u8> {
+pub fn right(desc: &Description) -> Vec<u8> {
     let first = if desc.p == 1 {
         100
     } else {
@@ -30,7 +30,7 @@ fn right(desc: &Description) -> Vec<u8> {
 }
 
 /// A command at 101 for the tests here: of 32 bytes for type 2.
-fn at_101(desc: &Description, operation: usize, code: u8, length: u32) -> Cdb {
+pub fn at_101(desc: &Description, operation: usize, code: u8, length: u32) -> Cdb {
     if desc.p == 2 {
         long(operation, code, 101, length, 5).tags(0x1234, 0xFFFF)
     } else {

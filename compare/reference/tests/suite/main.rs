@@ -2,6 +2,7 @@
 
 mod cases;
 mod commands;
+mod compares;
 mod descriptions;
 mod fields;
 mod formats;

@@ -1,7 +1,8 @@
 //! A second, slow telling of the rules, and very many small cases for both.
 //!
 //! It looks at every interval by its place in the transfer, takes the guard by
-//! long division, and finds the first fault by looking at all of them.
+//! long division, and finds the first fault by looking at all of them, and the
+//! first differing block by looking at all that a READ would move.
 
 use reference::{Description, Outcome, guard_by_division};
 
@@ -91,9 +92,11 @@ fn told(
     if code == 6 || code == 7 {
         return refuse(6);
     }
-    if operation == VERIFY && protect & 0b0000_0110 != 0 {
+    let byte_check = protect / 2 % 4;
+    if operation == VERIFY && (byte_check == 2 || byte_check == 3) {
         return refuse(6);
     }
+    let compares = operation == VERIFY && byte_check == 1;
     let address = number(&command[row.4.clone()]);
     let length = number(&command[row.5.clone()]);
     if address < w as u128 || address + length > w as u128 + n as u128 {
@@ -101,7 +104,7 @@ fn told(
     }
     let length = length as usize;
     let each = if code == 0 { b as usize } else { stored };
-    let wanted = if operation == VERIFY {
+    let wanted = if operation == VERIFY && !compares {
         0
     } else {
         length * each
@@ -153,7 +156,8 @@ fn told(
         return (plain(0), after, buffer.to_vec());
     }
 
-    let judged = if operation == WRITE {
+    let comes_in = operation == WRITE || compares && code != 0;
+    let judged = if comes_in {
         buffer
     } else {
         &segment[own.clone()]
@@ -165,7 +169,7 @@ fn told(
     };
     let skipped = |place: usize| {
         let first = place / per_block * per_block;
-        operation != WRITE && (first..first + per_block).any(escape)
+        !comes_in && (first..first + per_block).any(escape)
     };
     let fault = |place: usize| -> Option<u64> {
         if skipped(place) {
@@ -195,21 +199,28 @@ fn told(
         return same(outcome(answer, block, place as u64));
     }
 
-    match operation {
-        READ if code == 0 => {
-            let moved = segment[own]
-                .chunks(step)
-                .flat_map(|interval| interval[..data].to_vec())
-                .collect();
-            (plain(0), segment.to_vec(), moved)
-        }
-        READ => (plain(0), segment.to_vec(), segment[own].to_vec()),
-        WRITE => {
-            let mut after = segment.to_vec();
-            after[own].copy_from_slice(buffer);
-            (plain(0), after, buffer.to_vec())
-        }
-        _ => refuse(0),
+    if operation == WRITE {
+        let mut after = segment.to_vec();
+        after[own].copy_from_slice(buffer);
+        return (plain(0), after, buffer.to_vec());
+    }
+    let moved: Vec<u8> = if code == 0 {
+        segment[own]
+            .chunks(step)
+            .flat_map(|interval| interval[..data].to_vec())
+            .collect()
+    } else {
+        segment[own].to_vec()
+    };
+    if operation == READ {
+        return (plain(0), segment.to_vec(), moved);
+    }
+    let differing: Vec<usize> = (0..length)
+        .filter(|block| compares && moved[block * each..][..each] != buffer[block * each..][..each])
+        .collect();
+    match differing.first() {
+        Some(&block) => same(outcome(15, address as u64 + block as u64, 0)),
+        None => refuse(0),
     }
 }
 
@@ -253,7 +264,7 @@ fn blocks(
 #[test]
 fn very_many_small_cases() {
     let mut numbers = Numbers(5);
-    let mut seen = [0u32; 15];
+    let mut seen = [0u32; 16];
     for _ in 0..120_000 {
         let p = numbers.below(4);
         let n = 1 + numbers.below(5);
@@ -284,6 +295,7 @@ fn very_many_small_cases() {
             } else {
                 numbers.below(6) as u8
             },
+            byte_check: numbers.below(2) as u8,
             address: desc.w + offset,
             length: numbers.below(n - offset + 1) as u32,
             first: numbers.pick(&[0, 7, 0xFFFF_FFFE, 0xFFFF_FFFF]),
@@ -299,12 +311,18 @@ fn very_many_small_cases() {
         let segment_tag = numbers.pick(&[command.application, 0x12FF]);
         let mut segment = blocks(&mut numbers, &desc, before, n, segment_tag);
         let length = right_length(&desc, &command);
-        let mut buffer = if command.operation == WRITE && command.code != 0 {
+        let mut buffer = if command.compares() {
+            sent(&desc, &segment, &command)
+        } else if command.operation == WRITE && command.code != 0 {
             let count = u64::from(command.length);
             blocks(&mut numbers, &desc, base, count, command.application)
         } else {
             numbers.bytes(length)
         };
+        if command.compares() && length > 0 && numbers.once_in(2) {
+            let at = numbers.below(length as u64) as usize;
+            buffer[at] ^= 1 << numbers.below(8);
+        }
 
         // One thing amiss now and then.
         match numbers.below(40) {
@@ -317,6 +335,7 @@ fn very_many_small_cases() {
             6 => desc.p = numbers.below(5),
             7 => desc.w = numbers.next(),
             8 => desc.e = numbers.below(5),
+            9 => command.byte_check = numbers.below(4) as u8,
             _ => {}
         }
         let mut laid = command.bytes();
@@ -340,12 +359,12 @@ fn very_many_small_cases() {
         seen[got.0.answer as usize] += 1;
     }
     // Every answer a command can have has been met, and often.
-    for answer in [0, 1, 2, 3, 4, 5, 6, 7, 8, 9, 10] {
+    for answer in [0, 1, 2, 3, 4, 5, 6, 7, 8, 9, 10, 15] {
         assert!(
             seen[answer] > 300,
             "answer {answer}: {} times",
             seen[answer]
         );
     }
-    assert_eq!(seen[11..], [0; 4]);
+    assert_eq!(seen[11..15], [0; 4]);
 }

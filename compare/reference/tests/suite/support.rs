@@ -50,6 +50,7 @@ pub struct Cdb {
     pub operation: usize,
     pub size: usize,
     pub code: u8,
+    pub byte_check: u8,
     pub address: u64,
     pub length: u32,
     pub first: u32,
@@ -63,6 +64,7 @@ pub fn cdb(operation: usize, size: usize, code: u8, address: u64, length: u32) -
         operation,
         size,
         code,
+        byte_check: 0,
         address,
         length,
         first: 0,
@@ -80,6 +82,11 @@ pub fn long(operation: usize, code: u8, address: u64, length: u32, first: u32) -
 }
 
 impl Cdb {
+    /// Whether this is a VERIFY that compares with the data sent.
+    pub fn compares(&self) -> bool {
+        self.operation == VERIFY && self.byte_check == 0b01
+    }
+
     pub fn tags(self, application: u16, mask: u16) -> Cdb {
         Cdb {
             application,
@@ -91,24 +98,25 @@ impl Cdb {
     pub fn bytes(&self) -> Vec<u8> {
         let mut out = vec![0u8; self.size];
         let first = |codes: [u8; 3]| codes[self.operation];
+        let protect = self.code << 5 | self.byte_check << 1;
         let address = self.address.to_be_bytes();
         let length = self.length.to_be_bytes();
         match self.size {
             10 => {
                 out[0] = first([0x28, 0x2A, 0x2F]);
-                out[1] = self.code << 5;
+                out[1] = protect;
                 out[2..6].copy_from_slice(&address[4..]);
                 out[7..9].copy_from_slice(&length[2..]);
             }
             12 => {
                 out[0] = first([0xA8, 0xAA, 0xAF]);
-                out[1] = self.code << 5;
+                out[1] = protect;
                 out[2..6].copy_from_slice(&address[4..]);
                 out[6..10].copy_from_slice(&length);
             }
             16 => {
                 out[0] = first([0x88, 0x8A, 0x8F]);
-                out[1] = self.code << 5;
+                out[1] = protect;
                 out[2..10].copy_from_slice(&address);
                 out[10..14].copy_from_slice(&length);
             }
@@ -116,7 +124,7 @@ impl Cdb {
                 out[0] = 0x7F;
                 out[7] = 0x18;
                 out[9] = first([0x09, 0x0B, 0x0A]);
-                out[10] = self.code << 5;
+                out[10] = protect;
                 out[12..20].copy_from_slice(&address);
                 out[20..24].copy_from_slice(&self.first.to_be_bytes());
                 out[24..26].copy_from_slice(&self.application.to_be_bytes());
@@ -143,7 +151,7 @@ pub fn plain(answer: u64) -> Outcome {
 
 /// Executes and returns the outcome with the segment and the buffer afterwards.
 /// Asserts on the way what holds for every command: a refusal changes nothing, a
-/// READ or VERIFY leaves the segment, and a WRITE leaves its buffer.
+/// READ or VERIFY leaves the segment, and a WRITE or VERIFY its buffer.
 pub fn run(
     desc: &Description,
     segment: &[u8],
@@ -152,16 +160,21 @@ pub fn run(
 ) -> (Outcome, Vec<u8>, Vec<u8>) {
     let (mut after, mut moved) = (segment.to_vec(), buffer.to_vec());
     let got = execute(desc, &mut after, command, &mut moved);
-    let reads = matches!(command.first(), Some(0x28 | 0xA8 | 0x88))
-        || command.first() == Some(&0x7F) && command.get(9) == Some(&0x09);
-    if got.answer != 0 || !reads {
+    let is = |short: [u8; 3], long: u8| match command.first() {
+        Some(0x7F) => command.get(9) == Some(&long),
+        Some(first) => short.contains(first),
+        None => false,
+    };
+    if got.answer != 0 || !is([0x28, 0xA8, 0x88], 0x09) {
         assert_eq!(moved, buffer, "the buffer changed");
     }
-    if got.answer != 0 || reads {
+    if got.answer != 0 || !is([0x2A, 0xAA, 0x8A], 0x0B) {
         assert_eq!(after, segment, "the segment changed");
     }
-    if !(8..=10).contains(&got.answer) {
-        assert_eq!(got, plain(got.answer));
+    match got.answer {
+        8..=10 => {}
+        15 => assert_eq!(got, outcome(15, got.address, 0)),
+        _ => assert_eq!(got, plain(got.answer)),
     }
     (got, after, moved)
 }
@@ -174,7 +187,8 @@ pub fn answer(desc: &Description, segment: &[u8], command: &Cdb) -> Outcome {
 
 /// The buffer length a command asks for; 0 where its blocks are out of range.
 pub fn right_length(desc: &Description, command: &Cdb) -> usize {
-    if command.operation == VERIFY || u64::from(command.length) > desc.n {
+    let brings_none = command.operation == VERIFY && !command.compares();
+    if brings_none || u64::from(command.length) > desc.n {
         return 0;
     }
     let fields = if desc.p == 0 { 0 } else { 8 << desc.e };
@@ -184,6 +198,20 @@ pub fn right_length(desc: &Description, command: &Cdb) -> usize {
         desc.b + fields
     };
     (u64::from(command.length) * each) as usize
+}
+
+/// What a VERIFY sends that finds the transfer's blocks alike: their user data
+/// with 000, else all their bytes.
+pub fn sent(desc: &Description, segment: &[u8], command: &Cdb) -> Vec<u8> {
+    let stored = desc.stored_block().unwrap() as usize;
+    let start = (command.address - desc.w) as usize * stored;
+    let own = &segment[start..][..command.length as usize * stored];
+    let data = (desc.b >> desc.e) as usize;
+    let step = stored >> desc.e;
+    own.chunks(step)
+        .flat_map(|interval| &interval[..if command.code == 0 { data } else { step }])
+        .copied()
+        .collect()
 }
 
 /// One interval: data, its true guard, and two tags.
