@@ -2,7 +2,8 @@
  * Lamptassel: judges and moves protected disk blocks.
  *
  * For C11 and C++17 on x86-64 Linux; link with -llamptassel. "Document 01" below is
- * "Blocks, commands and answers of the cabinet", whose words and numbers are used here.
+ * "Blocks, commands and answers of the cabinet", whose words and numbers are used here;
+ * comparing while verifying, with answer 15, is of document 02, its change requests.
  *
  * Every function answers every input. A value out of range is refused; it is never cut to
  * fewer bits and never makes the program fail. What holds for all functions:

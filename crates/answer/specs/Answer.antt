@@ -29,7 +29,7 @@ fieldRow Guard = row 8 0x0B_10_01
 fieldRow Application = row 9 0x0B_10_02
 fieldRow Reference = row 10 0x0B_10_03
 
--- document 02: "15 (0E/1D/00) .. with the address of the first differing block and place 0"
+-- document 02: "15 (0E/1D/00)"
 abbrev pub differsRow : Row
 differsRow = row 15 0x0E_1D_00
 

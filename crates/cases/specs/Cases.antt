@@ -144,19 +144,23 @@ comparing =
     -- a block that has the escape is compared too
     ∷ onM 0x2F_02_00000009_00_0001_00 (user 0x03) (answered 0 0 0 M (user 0x03))
     ∷ onM 0x2F_02_00000009_00_0001_00 (user 0x83) (answered 15 9 0 M (user 0x83))
-    -- "With another code the incoming intervals are checked as for WRITE": code 001, the block at 9 as it is stored has no escape there
+    -- "With another code the incoming intervals are checked as for WRITE", code 001: M's first block; its third, which sent has no escape
+    ∷ onM 0x2F_22_00000007_00_0001_00 first (answered 0 0 0 M first)
     ∷ onM 0x2F_22_00000009_00_0001_00 third (answered 8 9 0 M third)
     -- "the stored ones are not, and then all S bytes of each block are compared": of the block at 8 only the reference tag differs
     ∷ onM 0x2F_22_00000008_00_0001_00 rightSecond (answered 15 8 0 M rightSecond)
     -- code 011 checks nothing: all of M, and all but the last
     ∷ onM 0x2F_62_00000007_00_0003_00 M (answered 0 0 0 M M)
     ∷ onM 0x2F_62_00000007_00_0003_00 (first ++ second ++ second) (answered 15 9 0 M (first ++ second ++ second))
-    -- "the buffer holds T × B bytes for code 000"; T 0; "values 10b and 11b stay at 6"
+    -- "the buffer holds T × B bytes for code 000"; T 0; "values 10b and 11b stay at 6", before the address
     ∷ onM 0x2F_02_00000007_00_0001_00 [] (answered 4 0 0 M [])
     ∷ onM 0x2F_02_0000000A_00_0000_00 [] (answered 0 0 0 M [])
     ∷ onM 0x2F_04_00000007_00_0001_00 [] (answered 6 0 0 M [])
     ∷ onM 0x2F_06_00000007_00_0001_00 [] (answered 6 0 0 M [])
+    ∷ onM 0x2F_04_00000006_00_0001_00 [] (answered 6 0 0 M [])
+    ∷ onM 0x2F_02_00000006_00_0001_00 [] (answered 7 0 0 M [])
     -- bits 00b are as before
+    ∷ onM 0x2F_00_00000007_00_0001_00 (user 0x01) (answered 4 0 0 M (user 0x01))
     ∷ onM 0x2F_20_00000007_00_0002_00 [] (answered 10 8 1 M [])
     -- type 0, B 8, W 0, N 2: "In type 0 only the data is compared."
     ∷ execute
@@ -166,6 +170,17 @@ comparing =
       command = bytes 10 0x2F_02_00000000_00_0002_00;
       buffer = user 0x01 ++ user 0x03;
       outcome = answered 15 1 0 (user 0x01 ++ user 0x02) (user 0x01 ++ user 0x03);
+    })
+    -- type 2, B 8, e 1, VERIFY (32), code 001, first tag FFFFFFFFh: what is sent is right, and differs in its second interval; the block is
+    -- named, and place 0
+    ∷ execute
+    (record {
+      description = described 2 8 1 0 1 0;
+      segment = bytes 24 0x00000001_8BB7_0000_FFFFFFFF_00000002_9CD9_0000_00000000;
+      command = bytes 32 0x7F_00_00000000_00_18_000A_22_00_0000000000000000_FFFFFFFF_0000_0000_00000001;
+      buffer = bytes 24 0x00000001_8BB7_0000_FFFFFFFF_00000003_176E_0000_00000000;
+      outcome =
+          answered 15 0 0 (bytes 24 0x00000001_8BB7_0000_FFFFFFFF_00000002_9CD9_0000_00000000) (bytes 24 0x00000001_8BB7_0000_FFFFFFFF_00000003_176E_0000_00000000);
     })
     ∷ []
 

@@ -1,8 +1,8 @@
 -- What it tells that a command compares, or does not.
 -- Assumes nothing.
-use mathlib.Core.Path.{_≡_, refl}
+use mathlib.Core.Path.{_≡_, refl, ap}
 use mathlib.Core.Bool.{Bool, true, false, _&&_, false≢true}
-use borrow.Author.Tests.{eqb-true}
+use borrow.Author.Tests.{eq-eqb, eqb-true}
 use lib.Dec.{eqb}
 use Rattle.command.specs.declared.Operation.{Operation}
 use Rattle.command.specs.declared.Operation.the-variants.{Read, Write, Verify}
@@ -40,3 +40,7 @@ comparing c e = by (isVerify (c .operation)) refl (eqb (c .check) 0b01) refl e
     by true v true g e = record { verify = verify-is (c .operation) v; bits = eqb-true (c .check) 0b01 g }
     by true v false g e = absurd (false≢true e)
     by false v g f e = absurd (false≢true e)
+
+pub both-compare : (c : Command) → c .operation ≡ Verify → c .check ≡ 0b01 → compares c ≡ true
+unfolding compares
+both-compare c v e = rw (ap isVerify v, eq-eqb (c .check) 0b01 e)

@@ -1,4 +1,4 @@
 pub mod SameLaws
 pub mod Parts
-pub mod Different
+pub mod FirstLaws
 pub mod Coincide

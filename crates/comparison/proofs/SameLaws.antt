@@ -46,19 +46,19 @@ same-append (a ∷ p) r (b ∷ y) = by (eqb a b) (same-append p r y)
     by false e = refl
 
 -- ---- the bits in which two lists differ, all in one number behind t
-unfoldable pub turnedFrom : ℕ → List ℕ → List ℕ → ℕ
-turnedFrom t [] y = t
-turnedFrom t (a ∷ x) [] = t
-turnedFrom t (a ∷ x) (b ∷ y) = turnedFrom (bitOr t (bitXor a b)) x y
+unfoldable pub differingFrom : ℕ → List ℕ → List ℕ → ℕ
+differingFrom t [] y = t
+differingFrom t (a ∷ x) [] = t
+differingFrom t (a ∷ x) (b ∷ y) = differingFrom (bitOr t (bitXor a b)) x y
 
-pub turned-next : (x y : List ℕ) (t i whole : ℕ) → i < length x → i < length y → turnedFrom t (drop i x) (drop i y) ≡ whole
-    → turnedFrom (bitOr t (bitXor (getD x i 0) (getD y i 0))) (drop (i + 1) x) (drop (i + 1) y) ≡ whole
-unfolding turnedFrom
-turned-next x y t i whole hx hy e = rw (drop-next x i 0 hx, drop-next y i 0 hy) at e
+pub differing-next : (x y : List ℕ) (t i whole : ℕ) → i < length x → i < length y → differingFrom t (drop i x) (drop i y) ≡ whole
+    → differingFrom (bitOr t (bitXor (getD x i 0) (getD y i 0))) (drop (i + 1) x) (drop (i + 1) y) ≡ whole
+unfolding differingFrom
+differing-next x y t i whole hx hy e = rw (drop-next x i 0 hx, drop-next y i 0 hy) at e
 
-pub turned-end : (x y : List ℕ) (t i whole : ℕ) → length x ≤ i → turnedFrom t (drop i x) (drop i y) ≡ whole → t ≡ whole
-unfolding turnedFrom
-turned-end x y t i whole h e = rw (drop-of-length-le x h) at e
+pub differing-end : (x y : List ℕ) (t i whole : ℕ) → length x ≤ i → differingFrom t (drop i x) (drop i y) ≡ whole → t ≡ whole
+unfolding differingFrom
+differing-end x y t i whole h e = rw (drop-of-length-le x h) at e
 
 or-nothing : (a b : ℕ) → bitOr a b ≡ 0 → (a ≡ 0) × (b ≡ 0)
 or-nothing a b e =
@@ -67,8 +67,8 @@ or-nothing a b e =
 xor-nothing : (a b : ℕ) → bitXor a b ≡ 0 → a ≡ b
 xor-nothing a b e = sym (xor-cancel a b) ∙ ap (λ (x : ℕ). bitXor x b) e ∙ xor-zero-l b
 
-none-turned : (t a b : ℕ) → eqb (bitOr t (bitXor a b)) 0 ≡ (eqb t 0 && eqb a b)
-none-turned t a b = by (eqb t 0) refl (eqb a b) refl
+none-differing : (t a b : ℕ) → eqb (bitOr t (bitXor a b)) 0 ≡ (eqb t 0 && eqb a b)
+none-differing t a b = by (eqb t 0) refl (eqb a b) refl
   where
     by : (g : Bool) → eqb t 0 ≡ g → (h : Bool) → eqb a b ≡ h → eqb (bitOr t (bitXor a b)) 0 ≡ (g && h)
     by true p true q =
@@ -78,14 +78,14 @@ none-turned t a b = by (eqb t 0) refl (eqb a b) refl
         ne-eqb (bitOr t (bitXor a b)) 0 (λ z. eqb-false a b q (xor-nothing a b (or-nothing t (bitXor a b) z .1)))
     by false p h q = ne-eqb (bitOr t (bitXor a b)) 0 (λ z. eqb-false t 0 p (or-nothing t (bitXor a b) z .0))
 
-pub turned-same : (t : ℕ) (x y : List ℕ) → length x ≡ length y → eqb (turnedFrom t x y) 0 ≡ (eqb t 0 && same x y)
-unfolding turnedFrom same
-turned-same t [] [] h = by (eqb t 0)
+pub differing-same : (t : ℕ) (x y : List ℕ) → length x ≡ length y → eqb (differingFrom t x y) 0 ≡ (eqb t 0 && same x y)
+unfolding differingFrom same
+differing-same t [] [] h = by (eqb t 0)
   where
     by : (g : Bool) → g ≡ (g && true)
     by true = refl
     by false = refl
-turned-same t [] (b ∷ y) h = absurd (omega arith)
-turned-same t (a ∷ x) [] h = absurd (omega arith)
-turned-same t (a ∷ x) (b ∷ y) h =
-    turned-same (bitOr t (bitXor a b)) x y (suc-inj h) ∙ ap (λ (g : Bool). g && same x y) (none-turned t a b) ∙ and-assoc (eqb t 0) (eqb a b) (same x y)
+differing-same t [] (b ∷ y) h = absurd (omega arith)
+differing-same t (a ∷ x) [] h = absurd (omega arith)
+differing-same t (a ∷ x) (b ∷ y) h =
+    differing-same (bitOr t (bitXor a b)) x y (suc-inj h) ∙ ap (λ (g : Bool). g && same x y) (none-differing t a b) ∙ and-assoc (eqb t 0) (eqb a b) (same x y)

@@ -13,19 +13,19 @@ pub struct Cut {
     pub stride: usize,
 }
 
-// Whether two slices, one as long as the other, are the same. Every bit that differs is kept, and looked at once at the end: a loop
-// that could stop at each byte would take as long as half a guard.
+// Whether two slices, one as long as the other, are the same. The bits that differ are gathered, and looked at once at the end: a loop
+// that could stop at each byte would take a quarter of the guard's time, and this one takes next to none.
 fn same(a: &[u8], b: &[u8]) -> bool
     requires { ⌜ length (now a) ≡ length (now b) ⌝ }
     ensures { λ r. ⌜ r ≡ same (now (a .entry)) (now (b .entry)) ⌝ }
 {
-    let mut turned: u8 = 0;
+    let mut differing: u8 = 0;
     let mut i: usize = 0;
     while i < a.len() {
-        turned = turned | (a[i] ^ b[i]);
+        differing = differing | (a[i] ^ b[i]);
         i += 1;
     }
-    turned == 0
+    differing == 0
 }
 
 // Whether the pieces of a stored block are what was sent for it: none is looked at behind the first that differs.

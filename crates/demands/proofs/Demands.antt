@@ -256,7 +256,7 @@ module _ (d : Description) (writing : List ℕ) (l : Lent) (reading out : List �
   pub read-after-write : whole d k ≡ whole d w → executed d reading (lent now out) .left .buffer ≡ l .buffer
   read-after-write same = read-gives-what-was-stored ∙ handed-back d w l (stored .0) is-write k long same
 
--- ---- demand 2: a transfer otherwise in order is refused exactly when an interval under check is wrong
+-- ---- demand 2: a transfer otherwise in order is refused for protection exactly when an interval under check is wrong
 
 wrong-is : (a : Answer) → forProtection a ≡ true → isGood a ≡ false
 wrong-is a p = ⊎-elim (λ g. absurd (true≢false (sym p ∙ ap forProtection g))) (λ w. w) (good-or a)
@@ -304,7 +304,7 @@ module _ (d : Description) (command : List ℕ) (l : Lent) (c : Command)
       each two Sent = right-side Sent .0 (two .0)
       each two Stored = right-side Stored .0 (two .1)
 
-  -- "a transfer with no wrong interval is good", where it does not compare or every block is the one sent, and no other is
+  -- good exactly when every interval under check is right and, where it compares, every block is the one sent
   pub good-exactly-when-right-and-same : (executed d command l .answer ≡ answers.Good) ↔ (((side : Side) → AllRight side d c l) × AllSame d c l)
   good-exactly-when-right-and-same =
       let both = orElse-good (orElse (judgedSide Sent) (judgedSide Stored)) comparedHere in
@@ -312,12 +312,12 @@ module _ (d : Description) (command : List ℕ) (l : Lent) (c : Command)
       rw answer-is
       (λ e. let two = both .0 e in (right-sides .0 (two .0), same .0 (two .1)), λ f. both .1 (right-sides .1 (f .0), same .1 (f .1)))
 
+  -- "a transfer with no wrong interval is good", and no other is
   pub good-exactly-when-all-right : compares c ≡ false → (executed d command l .answer ≡ answers.Good) ↔ ((side : Side) → AllRight side d c l)
   good-exactly-when-all-right off =
       let all = good-exactly-when-right-and-same in
       (λ e. all .0 e .0, λ f. all .1 (f, λ on. absurd (true≢false (sym on ∙ off))))
 
-  -- 8, 9 or 10 with the first wrong interval's address and place: all before it are right
   names-the-first : isGood (orElse (judgedSide Sent) (judgedSide Stored)) ≡ false → FirstNamed d c l (orElse (judgedSide Sent) (judgedSide Stored))
   names-the-first w = by w (good-or (judgedSide Sent))
     where
@@ -350,9 +350,22 @@ module _ (d : Description) (command : List ℕ) (l : Lent) (c : Command)
       by w (inl g) = rw g (let d = first-different d c l (rw g at w) in inr (right-sides .0 g, d .0, d .1))
       by w (inr n) = rw n (inl (names-the-first n))
 
-  pub refused-names-the-first-wrong : forProtection (executed d command l .answer) ≡ true → FirstNamed d c l (executed d command l .answer)
-  refused-names-the-first-wrong p =
+  -- 8, 9 or 10 with the first wrong interval's address and place: all before it are right
+  pub protection-names-the-first-wrong : forProtection (executed d command l .answer) ≡ true → FirstNamed d c l (executed d command l .answer)
+  protection-names-the-first-wrong p =
       ⊎-elim (λ f. f) (λ two. absurd (true≢false (sym p ∙ fifteen-for-no-field (executed d command l .answer) (two .2 .number)))) (refused-names (wrong-is (executed d command l .answer) p))
+
+  pub refused-names-the-first-wrong : compares c ≡ false → isGood (executed d command l .answer) ≡ false → FirstNamed d c l (executed d command l .answer)
+  refused-names-the-first-wrong off w = ⊎-elim (λ f. f) (λ three. absurd (true≢false (sym (three .1) ∙ off))) (refused-names w)
+
+  -- 15 with the first block's address that differs: all before it are the same
+  pub difference-names-the-first-different : forDifference (executed d command l .answer) ≡ true → FirstDifferent d c l (executed d command l .answer)
+  difference-names-the-first-different p =
+      let answered = executed d command l .answer in
+      ⊎-elim
+      (λ f. absurd (true≢false (sym (between (numberOf answered) (f .first .names .least) (f .first .names .most)) ∙ fifteen-for-no-field answered (eqb-true (numberOf answered) 15 p))))
+      (λ three. three .2)
+      (refused-names (fifteen-is-not-good answered p))
 
   -- "in one interval guard, application, reference": of each, what its verdict says
   pub guard-application-reference : (side : Side) (j i : ℕ)
@@ -378,7 +391,7 @@ module _ (d : Description) (command : List ℕ) (l : Lent) (bytes : Bytes comman
       (true≢false
       (sym p ∙ ap (λ (x : Admitted). forProtection (executedAs x d l .answer)) e ∙ not-in-order-names-no-interval d (lengthsOf l) command a e))
   refused-is-wrong p (Go c) e =
-      let first = refused-names-the-first-wrong d command l c bytes e p in
+      let first = protection-names-the-first-wrong d command l c bytes e p in
       let f = first .first in
       record {
         transfer = c;

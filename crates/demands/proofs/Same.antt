@@ -11,13 +11,13 @@ use Rattle.segment.specs.declared.Description.{Description}
 use Rattle.command.specs.declared.Command.{Command}
 use Rattle.command.specs.Compares.{compares}
 use Rattle.comparison.specs.Comparison.{compareBlocks}
-use Rattle.comparison.proofs.Different.{blocks-same, blocks-differ}
+use Rattle.comparison.proofs.FirstLaws.{blocks-same, blocks-differ}
 use Rattle.refusal.specs.Refusal.{eachOf}
 use Rattle.sides.specs.declared.Side.the-variants.{Sent, Stored}
 use Rattle.transfer.specs.Transfer.{blocksOf, handed, compared}
 use Rattle.execute.specs.Lent.{Lent}
 use Rattle.execute.specs.Execute.{underCheck}
-use Rattle.demands.specs.Different.{SameAt, AllSame, FirstDifferent}
+use Rattle.demands.specs.Different.{SameBlock, AllSame, FirstDifferent}
 
 module _ (d : Description) (c : Command) (l : Lent) where
   abbrev blocks : Answer
@@ -27,7 +27,7 @@ module _ (d : Description) (c : Command) (l : Lent) where
   unfolding compared
   all-same = by (compares c) refl
     where
-      each : (blocks ≡ answers.Good) ↔ ((j : ℕ) → j < c .length → SameAt d c l j)
+      each : (blocks ≡ answers.Good) ↔ ((j : ℕ) → j < c .length → SameBlock d c l j)
       each = blocks-same (eachOf d c) (c .length) (c .address) (handed d c (blocksOf d c (l .segment))) (l .buffer)
 
       by : (b : Bool) → compares c ≡ b → (cond b blocks answers.Good ≡ answers.Good) ↔ AllSame d c l

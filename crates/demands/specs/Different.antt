@@ -8,7 +8,8 @@ use Rattle.answer.specs.Answer.{numberOf, senseOf, addressOf, placeOf}
 use Rattle.answer.specs.declared.Answer.{Answer}
 use Rattle.segment.specs.declared.Description.{Description}
 use Rattle.command.specs.declared.Command.{Command}
-use Rattle.command.specs.declared.Operation.the-variants.{Verify}
+use Rattle.command.specs.declared.Operation.{Operation}
+use Rattle.command.specs.declared.Operation.the-variants.{Write, Verify}
 use Rattle.command.specs.Compares.{compares}
 use Rattle.refusal.specs.Refusal.{eachOf}
 use Rattle.sides.specs.declared.Side.{Side}
@@ -19,20 +20,20 @@ use Rattle.execute.specs.Lent.{Lent, lengthsOf}
 use Rattle.demands.specs.Checked.{AllRight}
 
 -- block j of the transfer, as a READ of that code would hand it out, is block j of what is sent
-abbrev pub SameAt : Description → Command → Lent → ℕ → Type 0
-SameAt d c l j =
+abbrev pub SameBlock : Description → Command → Lent → ℕ → Type 0
+SameBlock d c l j =
     take (eachOf d c) (drop (j * eachOf d c) (handed d c (blocksOf d c (l .segment)))) ≡ take (eachOf d c) (drop (j * eachOf d c) (l .buffer))
 
 -- where the command compares, every block of the transfer is the one sent
 abbrev pub AllSame : Description → Command → Lent → Type 0
-AllSame d c l = compares c ≡ true → (j : ℕ) → j < c .length → SameAt d c l j
+AllSame d c l = compares c ≡ true → (j : ℕ) → j < c .length → SameBlock d c l j
 
 -- "15 (0E/1D/00) .. with the address of the first differing block and place 0": all before it are the same, it is not
 pub record FirstDifferent (d : Description) (c : Command) (l : Lent) (a : Answer) : Type 0 where
   pub block : ℕ
   pub within : block < c .length
-  pub earlier : (j : ℕ) → j < block → SameAt d c l j
-  pub here : SameAt d c l block → ⊥
+  pub earlier : (j : ℕ) → j < block → SameBlock d c l j
+  pub here : SameBlock d c l block → ⊥
   pub number : numberOf a ≡ 15
   pub sense : senseOf a ≡ 0x0E_1D_00
   pub address : addressOf a ≡ c .address + block
@@ -46,19 +47,28 @@ pub record DifferentBlock (d : Description) (command : List ℕ) (l : Lent) : Ty
   pub right : (side : Side) → AllRight side d transfer l
   pub block : ℕ
   pub within : block < transfer .length
-  pub different : SameAt d transfer l block → ⊥
+  pub different : SameBlock d transfer l block → ⊥
 
--- the VERIFY with byte-check bits 01b that asks as a command asks
-abbrev pub asVerify : Command → Command
-asVerify c =
+-- what a command asks, asked by another operation with other byte-check bits: a VERIFY that compares, one that does not, a WRITE
+abbrev pub asked : Operation → ℕ → Command → Command
+asked o bits c =
     record {
-      operation = Verify;
+      operation = o;
       long = c .long;
       code = c .code;
-      check = 0b01;
+      check = bits;
       address = c .address;
       length = c .length;
       tag = c .tag;
       application = c .application;
       mask = c .mask;
     }
+
+abbrev pub asComparing : Command → Command
+asComparing c = asked Verify 0b01 c
+
+abbrev pub asNotComparing : Command → Command
+asNotComparing c = asked Verify 0b00 c
+
+abbrev pub asWrite : Command → Command
+asWrite c = asked Write 0b00 c

@@ -2,4 +2,4 @@ pub mod Checked
 pub mod Compared
 pub mod Inserted
 pub mod Different
-pub mod Document01
+pub mod BeforeA1

@@ -8,7 +8,8 @@ use Rattle.execute.specs.Lent.{Lent}
 use Rattle.format.specs.declared.Choice.{Choice}
 
 -- a command's answer r, the numbers a and p in the places lent for them, and what is left of segment and buffer:
--- "Numbers 8 to 10 also give the block's address and the interval's place in the transfer, from 0; all others give 0 and 0."
+-- "Numbers 8 to 10 also give the block's address and the interval's place in the transfer, from 0; all others give 0 and 0.", and 15
+-- "the address of the first differing block and place 0"
 pub record Executed (o : Outcome Lent) (r a p : ℕ) (after : Lent) : Type 0 where
   pub answer : r ≡ numberOf (o .answer)
   pub address : a ≡ addressOf (o .answer)

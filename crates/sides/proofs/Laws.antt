@@ -43,9 +43,9 @@ as-write c e = by (compares c) refl (eqb (c .code) 0) refl e
     by true g false z e = record { comparing = g; fields = eqb-false (c .code) 0 z }
     by false g z f e = never e
 
--- a VERIFY that compares checks what is stored with 000, and what is sent with another code
-pub compared-user-data : (side : Side) (c : Command) → c .code ≡ 0 → checksOn side Verify c ≡ isStored side
-compared-user-data side c z = by side
+-- a VERIFY checks what is stored with 000, whether it compares or not; one that compares checks what is sent with another code
+pub verify-of-user-data : (side : Side) (c : Command) → c .code ≡ 0 → checksOn side Verify c ≡ isStored side
+verify-of-user-data side c z = by side
   where
     neither : (g : Bool) → (g && not (eqb (c .code) 0)) ≡ false
     neither true = rw (eq-eqb (c .code) 0 z)
@@ -55,9 +55,9 @@ compared-user-data side c z = by side
     by Sent = neither (compares c)
     by Stored = rw (neither (compares c))
 
-pub compared-whole : (side : Side) (c : Command) → compares c ≡ true → (c .code ≡ 0 → ⊥) → checksOn side Verify c ≡ not (isStored side)
-compared-whole Sent c e n = rw (e, ne-eqb (c .code) 0 n)
-compared-whole Stored c e n = rw (e, ne-eqb (c .code) 0 n)
+pub verify-of-whole-blocks : (side : Side) (c : Command) → compares c ≡ true → (c .code ≡ 0 → ⊥) → checksOn side Verify c ≡ not (isStored side)
+verify-of-whole-blocks Sent c e n = rw (e, ne-eqb (c .code) 0 n)
+verify-of-whole-blocks Stored c e n = rw (e, ne-eqb (c .code) 0 n)
 
 -- a side that is checked is checked over all of the transfer's blocks
 module _ (side : Side) (d : Description) (c : Command) where

@@ -15,7 +15,7 @@ unfolding verdict
 returns c = sym (stops _ _ _ _ (c .before .before .judge .ensures) (c .before .is-good .ensures) (c .if1 .taken))
 
 compare-requires : tie.Need-compare-requires
-compare-requires c κs = let pre = c .before .before .before .before .before .pre in (pre .1 .0, pre .1 .1 .1)
+compare-requires c κs = let start = c .before .before .before .before .before .pre in (start .1 .0, start .1 .1 .1)
 
 returns-2 : tie.Need-returns-2
 unfolding verdict

@@ -21,34 +21,34 @@ not-same x y n e = true≢false (sym (same-itself x) ∙ ap (same x) e ∙ n)
 
 module _ (each : ℕ) where
   -- block j of two lists
-  abbrev pub SameAt : List ℕ → List ℕ → ℕ → Type 0
-  SameAt x y j = take each (drop (j * each) x) ≡ take each (drop (j * each) y)
+  abbrev pub AlikeAt : List ℕ → List ℕ → ℕ → Type 0
+  AlikeAt x y j = take each (drop (j * each) x) ≡ take each (drop (j * each) y)
 
-  first : (x y : List ℕ) → take each x ≡ take each y → SameAt x y 0
+  first : (x y : List ℕ) → take each x ≡ take each y → AlikeAt x y 0
   first x y e = rw zero-mul e
 
-  first-is : (x y : List ℕ) → SameAt x y 0 → take each x ≡ take each y
+  first-is : (x y : List ℕ) → AlikeAt x y 0 → take each x ≡ take each y
   first-is x y e = rw zero-mul at e
 
-  later : (x y : List ℕ) (j : ℕ) → SameAt (drop each x) (drop each y) j → SameAt x y (suc j)
+  later : (x y : List ℕ) (j : ℕ) → AlikeAt (drop each x) (drop each y) j → AlikeAt x y (suc j)
   later x y j e = rw (← drop-more each j x, ← drop-more each j y) e
 
-  earlier : (x y : List ℕ) (j : ℕ) → SameAt x y (suc j) → SameAt (drop each x) (drop each y) j
+  earlier : (x y : List ℕ) (j : ℕ) → AlikeAt x y (suc j) → AlikeAt (drop each x) (drop each y) j
   earlier x y j e = rw (← drop-more each j x, ← drop-more each j y) at e
 
-  from-first : (k : ℕ) (x y : List ℕ) → take each x ≡ take each y → ((j : ℕ) → j < k → SameAt (drop each x) (drop each y) j) → (j : ℕ) → j < suc k → SameAt x y j
+  from-first : (k : ℕ) (x y : List ℕ) → take each x ≡ take each y → ((j : ℕ) → j < k → AlikeAt (drop each x) (drop each y) j) → (j : ℕ) → j < suc k → AlikeAt x y j
   from-first k x y e f zero h = first x y e
   from-first k x y e f (suc j) h = later x y j (f j (le-of-suc-le-suc h))
 
   -- good exactly when every block is the same
-  pub blocks-same : (k a : ℕ) (x y : List ℕ) → (compareBlocks each k a x y ≡ answers.Good) ↔ ((j : ℕ) → j < k → SameAt x y j)
+  pub blocks-same : (k a : ℕ) (x y : List ℕ) → (compareBlocks each k a x y ≡ answers.Good) ↔ ((j : ℕ) → j < k → AlikeAt x y j)
   unfolding compareBlocks
   blocks-same zero a x y = (λ e j h. absurd (not-suc-le-zero h), λ f. refl)
   blocks-same (suc k) a x y = by (same (take each x) (take each y)) refl (blocks-same k (a + 1) (drop each x) (drop each y))
     where
       by : (g : Bool) → same (take each x) (take each y) ≡ g
-          → (compareBlocks each k (a + 1) (drop each x) (drop each y) ≡ answers.Good) ↔ ((j : ℕ) → j < k → SameAt (drop each x) (drop each y) j)
-          → (cond g (compareBlocks each k (a + 1) (drop each x) (drop each y)) (answers.BlockDiffers a) ≡ answers.Good) ↔ ((j : ℕ) → j < suc k → SameAt x y j)
+          → (compareBlocks each k (a + 1) (drop each x) (drop each y) ≡ answers.Good) ↔ ((j : ℕ) → j < k → AlikeAt (drop each x) (drop each y) j)
+          → (cond g (compareBlocks each k (a + 1) (drop each x) (drop each y)) (answers.BlockDiffers a) ≡ answers.Good) ↔ ((j : ℕ) → j < suc k → AlikeAt x y j)
       by true g others =
           (λ e. from-first k x y (same-is _ _ g) (others .0 e), λ f. others .1 (λ j h. earlier x y j (f (suc j) (omega arith))))
       by false g others =
@@ -58,8 +58,8 @@ module _ (each : ℕ) where
   pub record FirstDiffers (k a : ℕ) (x y : List ℕ) (r : Answer) : Type 0 where
     pub at : ℕ
     pub within : at < k
-    pub before : (j : ℕ) → j < at → SameAt x y j
-    pub here : SameAt x y at → ⊥
+    pub before : (j : ℕ) → j < at → AlikeAt x y j
+    pub here : AlikeAt x y at → ⊥
     pub named : r ≡ answers.BlockDiffers (a + at)
 
   pub blocks-differ : (k a : ℕ) (x y : List ℕ) → isGood (compareBlocks each k a x y) ≡ false → FirstDiffers k a x y (compareBlocks each k a x y)

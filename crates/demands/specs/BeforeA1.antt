@@ -1,5 +1,5 @@
--- What document 01 by itself says of a command, where document 02 has changed it. A command that does not compare is still answered so:
--- `demands: Before.as-before`.
+-- What was said of a command before A1, "Compare while verifying": document 01's sentences, where that request has changed a definition. A
+-- command that does not compare is still answered so: `demands: Before.as-before`. What no sentence of A1 touches is taken as it stands.
 use Prim.Native.Nat.{ℕ}
 use mathlib.Core.Bool.{Bool, true, false, not, cond}
 use mathlib.Core.List.{List}
@@ -25,7 +25,7 @@ use Rattle.sides.specs.declared.Side.{Side}
 use Rattle.sides.specs.declared.Side.the-variants.{Sent, Stored}
 use Rattle.rules.specs.Rules.{rulesOf, startOf}
 use Rattle.refusal.specs.Refusal.{typeRules, codeRule, movedOf, sizeRule}
-use Rattle.execute.specs.Lent.{Lent, lengthsOf}
+use Rattle.execute.specs.Lent.{Lent}
 use Rattle.execute.specs.Execute.{underCheck, moved}
 
 -- "VERIFY has byte-check bits 2-1 of the protect byte; they must be 0."
