@@ -358,7 +358,7 @@ module _ (d : Description) (command : List ℕ) (l : Lent) (c : Command)
   pub refused-names-the-first-wrong : compares c ≡ false → isGood (executed d command l .answer) ≡ false → FirstNamed d c l (executed d command l .answer)
   refused-names-the-first-wrong off w = ⊎-elim (λ f. f) (λ three. absurd (true≢false (sym (three .1) ∙ off))) (refused-names w)
 
-  -- 15 with the first block's address that differs: all before it are the same
+  -- 15 with the address of the first block that differs: all before it are the same
   pub difference-names-the-first-different : forDifference (executed d command l .answer) ≡ true → FirstDifferent d c l (executed d command l .answer)
   difference-names-the-first-different p =
       let answered = executed d command l .answer in

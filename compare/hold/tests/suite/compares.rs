@@ -544,11 +544,13 @@ fn byte_check_bits_of_other_commands_looked_at() {
     }
 }
 
+/// Whether a length is taken beside the right one: of T, the right one, the one that
+/// another code would ask for, and the one given.
+type Taken = fn(usize, usize, usize, usize) -> bool;
+
 #[test]
 fn a_buffer_of_another_length() {
-    // Which lengths are taken beside the right one: of T, the right one, the one that
-    // another code would ask for, and the one given.
-    let taken: [fn(usize, usize, usize, usize) -> bool; 5] = [
+    let taken: [Taken; 5] = [
         |_, _, other, given| given == other,
         |_, _, _, given| given == 0,
         |_, right, _, given| given > right,
