@@ -39,8 +39,8 @@ use Rattle.execute.specs.Lent.{Lent, lent, lengthsOf}
 use Rattle.transfer.specs.Transfer.{blocksOf, judgedOn, judged, compared, verdict, whole, handed, received}
 use Rattle.transfer.proofs.Shapes.{whole-code, whole-not, handed-whole, handed-parted, judged-none, judged-all}
 use Rattle.execute.specs.Execute.{performed, moved, executed}
-use Rattle.demands.specs.Compared.{asRead}
-use Rattle.demands.specs.Different.{asked, asComparing, asNotComparing, asWrite}
+use Rattle.demands.specs.Compared.{asked, asRead}
+use Rattle.demands.specs.Different.{asComparing, asNotComparing, asWrite}
 use Rattle.demands.proofs.Stored.{handed-back, same-blocks}
 use Rattle.demands.proofs.Demands.{read-or-verify-leaves-segment, write-or-verify-leaves-buffer, goes-on-after, was-stored, write-judged, accepted}
 

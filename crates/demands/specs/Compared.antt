@@ -9,6 +9,7 @@ use Rattle.answer.specs.Outcome.{Outcome}
 use Rattle.segment.specs.declared.Description.{Description}
 use Rattle.segment.specs.Places.{offsetOf, spanOf}
 use Rattle.command.specs.declared.Command.{Command}
+use Rattle.command.specs.declared.Operation.{Operation}
 use Rattle.command.specs.declared.Operation.the-variants.{Read}
 use Rattle.execute.specs.Lent.{Lent}
 
@@ -25,17 +26,21 @@ pub record Alike (c : Command) (x y : Outcome Lent) : Type 0 where
   pub answer : x .answer ≡ y .answer
   pub filled : c .operation ≡ Read → isGood (x .answer) ≡ true → x .left .buffer ≡ y .left .buffer
 
--- "READ after a good WRITE gives back what was written": the READ that asks as a command asks
-abbrev pub asRead : Command → Command
-asRead c =
+-- what a command asks, asked by another operation, with other byte-check bits
+abbrev pub asked : Operation → ℕ → Command → Command
+asked o bits c =
     record {
-      operation = Read;
+      operation = o;
       long = c .long;
       code = c .code;
-      check = c .check;
+      check = bits;
       address = c .address;
       length = c .length;
       tag = c .tag;
       application = c .application;
       mask = c .mask;
     }
+
+-- "READ after a good WRITE gives back what was written": the READ that asks as a command asks
+abbrev pub asRead : Command → Command
+asRead c = asked Read (c .check) c

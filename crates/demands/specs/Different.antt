@@ -8,7 +8,6 @@ use Rattle.answer.specs.Answer.{numberOf, senseOf, addressOf, placeOf}
 use Rattle.answer.specs.declared.Answer.{Answer}
 use Rattle.segment.specs.declared.Description.{Description}
 use Rattle.command.specs.declared.Command.{Command}
-use Rattle.command.specs.declared.Operation.{Operation}
 use Rattle.command.specs.declared.Operation.the-variants.{Write, Verify}
 use Rattle.command.specs.Compares.{compares}
 use Rattle.refusal.specs.Refusal.{eachOf}
@@ -18,6 +17,7 @@ use Rattle.admission.specs.Admission.{admitted}
 use Rattle.transfer.specs.Transfer.{blocksOf, handed}
 use Rattle.execute.specs.Lent.{Lent, lengthsOf}
 use Rattle.demands.specs.Checked.{AllRight}
+use Rattle.demands.specs.Compared.{asked}
 
 -- block j of the transfer, as a READ of that code would hand it out, is block j of what is sent
 abbrev pub SameBlock : Description → Command → Lent → ℕ → Type 0
@@ -49,21 +49,7 @@ pub record DifferentBlock (d : Description) (command : List ℕ) (l : Lent) : Ty
   pub within : block < transfer .length
   pub different : SameBlock d transfer l block → ⊥
 
--- what a command asks, asked by another operation with other byte-check bits: a VERIFY that compares, one that does not, a WRITE
-abbrev pub asked : Operation → ℕ → Command → Command
-asked o bits c =
-    record {
-      operation = o;
-      long = c .long;
-      code = c .code;
-      check = bits;
-      address = c .address;
-      length = c .length;
-      tag = c .tag;
-      application = c .application;
-      mask = c .mask;
-    }
-
+-- the VERIFY that asks as a command asks, and compares; the one that does not; the WRITE
 abbrev pub asComparing : Command → Command
 asComparing c = asked Verify 0b01 c
 
