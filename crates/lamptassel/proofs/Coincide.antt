@@ -7,6 +7,7 @@ use Rattle.execute.specs.Lent.{Lent}
 use Rattle.lamptassel.proofs.lamptassel_execute.Reads as execute-reads
 use Rattle.lamptassel.proofs.lamptassel_format_choice.Reads as format-choice-reads
 use Rattle.lamptassel.proofs.lamptassel_fill.Reads as fill-reads
+use Rattle.lamptassel.proofs.lamptassel_scrub.Reads as scrub-reads
 use Rattle.lamptassel.proofs.lamptassel_parity.Reads as parity-reads
 use Rattle.lamptassel.proofs.lamptassel_rebuild.Reads as rebuild-reads
 use Rattle.lamptassel.proofs.lamptassel_correct.Reads as correct-reads
@@ -24,6 +25,9 @@ format-choice κs a x y s t p q = (p .answer ∙ sym (q .answer), p .kind ∙ sy
 
 pub fill : (κs : _) (a : _) (x y : _) (s t : _) → fill-reads.Post κs a x s → fill-reads.Post κs a y t → (x ≡ y) × (now (s .1 .1 .1 .1 .1 .1 .0) ≡ now (t .1 .1 .1 .1 .1 .1 .0))
 fill κs a x y s t p q = (p .answer ∙ sym (q .answer), p .left ∙ sym (q .left))
+
+pub scrub : (κs : _) (a : _) (x y : _) (s t : _) → scrub-reads.Post κs a x s → scrub-reads.Post κs a y t → (x ≡ y) × (now (s .1 .1 .1 .1 .1 .1 .1 .1 .1 .0) ≡ now (t .1 .1 .1 .1 .1 .1 .1 .1 .1 .0)) × (now (s .1 .1 .1 .1 .1 .1 .1 .1 .1 .1 .0) ≡ now (t .1 .1 .1 .1 .1 .1 .1 .1 .1 .1 .0)) × (now (s .1 .1 .1 .1 .1 .1 .1 .1 .1 .1 .1 .0) ≡ now (t .1 .1 .1 .1 .1 .1 .1 .1 .1 .1 .1 .0)) × (now (s .1 .1 .1 .1 .1 .1 .1 .1 .1 .1 .1 .1 .0) ≡ now (t .1 .1 .1 .1 .1 .1 .1 .1 .1 .1 .1 .1 .0))
+scrub κs a x y s t p q = (p .answer ∙ sym (q .answer), p .next ∙ sym (q .next), p .judged ∙ sym (q .judged), p .faults ∙ sym (q .faults), p .first ∙ sym (q .first))
 
 pub parity : (κs : _) (a : _) (x y : _) (s t : _) → parity-reads.Post κs a x s → parity-reads.Post κs a y t → (x ≡ y) × (now (s .1 .1 .1 .1 .1 .1 .1 .1 .0) ≡ now (t .1 .1 .1 .1 .1 .1 .1 .1 .0))
 parity κs a x y s t p q = (p .answer ∙ sym (q .answer), p .left ∙ sym (q .left))

@@ -11,8 +11,10 @@ use Rattle.execute.specs.Lent.{Lent}
 use Rattle.execute.specs.Execute.{executed}
 use Rattle.format.specs.declared.Choice.{Choice}
 use Rattle.filling.specs.Fresh.{filled}
+use Rattle.scrub.specs.declared.Scrubbed.{Scrubbed}
+use Rattle.scrub.specs.Scrub.{scrubbed}
 use Rattle.stripe.specs.Stripe.{made, rebuilt, corrected}
-use Rattle.lamptassel.specs.Answers.{Executed, Chosen, Answered}
+use Rattle.lamptassel.specs.Answers.{Executed, Chosen, Answered, HandedBack}
 
 pub executed-told : (d d′ : Description) (command : List ℕ) (l left : Lent) (x : Answer) (r a p : ℕ) → d ≡ d′
     → outcome x left ≡ executed d command l → r ≡ numberOf x → a ≡ addressOf x → p ≡ placeOf x → Executed (executed d′ command l) r a p left
@@ -52,3 +54,15 @@ correct-told d d′ old new parity = described-told (λ y. corrected y old new p
 
 pub chosen-told : (c c′ : Choice) (r t : ℕ) → c ≡ c′ → r ≡ numberOf (c .answer) → t ≡ c .kind → Chosen c′ r t
 chosen-told c c′ r t same n k = record { answer = n ∙ ap (λ (y : Choice). numberOf (y .answer)) same; kind = k ∙ ap (λ (y : Choice). y .kind) same }
+
+pub scrub-told : (d d′ : Description) (s : List ℕ) (place blocks : ℕ) (o : Scrubbed) (r : ℕ) → d ≡ d′ → o ≡ scrubbed d s place blocks → r ≡ numberOf (o .answer)
+    → HandedBack (scrubbed d′ s place blocks) r (o .next) (o .judged) (o .faults) (o .first)
+scrub-told d d′ s place blocks o r same e n =
+    let whole : o ≡ scrubbed d′ s place blocks = e ∙ ap (λ (y : Description). scrubbed y s place blocks) same in
+    record {
+      answer = n ∙ ap (λ (y : Scrubbed). numberOf (y .answer)) whole;
+      next = ap (λ (y : Scrubbed). y .next) whole;
+      judged = ap (λ (y : Scrubbed). y .judged) whole;
+      faults = ap (λ (y : Scrubbed). y .faults) whole;
+      first = ap (λ (y : Scrubbed). y .first) whole;
+    }

@@ -6,6 +6,7 @@ use Rattle.answer.specs.Answer.{numberOf, addressOf, placeOf}
 use Rattle.answer.specs.Outcome.{Outcome}
 use Rattle.execute.specs.Lent.{Lent}
 use Rattle.format.specs.declared.Choice.{Choice}
+use Rattle.scrub.specs.declared.Scrubbed.{Scrubbed}
 
 -- a command's answer r, the numbers a and p in the places lent for them, and what is left of segment and buffer:
 -- "Numbers 8 to 10 also give the block's address and the interval's place in the transfer, from 0; all others give 0 and 0.", and 15
@@ -25,3 +26,12 @@ pub record Chosen (c : Choice) (r t : ℕ) : Type 0 where
 pub record Answered (o : Outcome (List ℕ)) (r : ℕ) (l : List ℕ) : Type 0 where
   pub answer : r ≡ numberOf (o .answer)
   pub left : l ≡ o .left
+
+-- document 02: the answer r to a scrub, and the numbers n, j, f and a in the places lent for "the new place, the blocks judged in this call,
+-- how many had a fault, and the address of the first"
+pub record HandedBack (o : Scrubbed) (r n j f a : ℕ) : Type 0 where
+  pub answer : r ≡ numberOf (o .answer)
+  pub next : n ≡ o .next
+  pub judged : j ≡ o .judged
+  pub faults : f ≡ o .faults
+  pub first : a ≡ o .first

@@ -8,9 +8,10 @@ ghost use Rattle.execute.specs.Lent.{lent};
 ghost use Rattle.execute.specs.Execute.{executed};
 ghost use Rattle.format.specs.Choice.{choiceOf};
 ghost use Rattle.filling.specs.Fresh.{filled};
+ghost use Rattle.scrub.specs.Scrub.{scrubbed};
 ghost use Rattle.stripe.specs.Stripe.{made, rebuilt, corrected};
 ghost use Rattle.listing.specs.Listing.{Listed};
-ghost use Rattle.lamptassel.specs.Answers.{Executed, Chosen, Answered};
+ghost use Rattle.lamptassel.specs.Answers.{Executed, Chosen, Answered, HandedBack};
 
 // Executes a command on a segment: READ, WRITE or VERIFY. Hands back the answer's number; the block's address and the
 // interval's place that go with it are put into `address` and `place`.
@@ -69,6 +70,36 @@ pub extern "C" fn lamptassel_fill(
 {
     let d = segment::described(kind, block, exponent, first, count, ato);
     answer::number(filling::fill(d, segment))
+}
+
+// Scrubs a segment from `place` on, over `blocks` blocks or as many as are left. Hands back the answer's number; the new place,
+// the blocks judged in this call, how many had a fault, and the address of the first are put into the four places.
+#[no_mangle]
+pub extern "C" fn lamptassel_scrub(
+    kind: u64,
+    block: u64,
+    exponent: u64,
+    first: u64,
+    count: u64,
+    ato: u64,
+    segment: &[u8],
+    place: u64,
+    blocks: u64,
+    next: &mut u64,
+    judged: &mut u64,
+    faults: &mut u64,
+    first_fault: &mut u64,
+) -> u64
+    ensures { λ r. ⌜ HandedBack (scrubbed (described kind block exponent first count ato) (now (segment .entry)) place blocks) r (now (next .exit)) (now (judged .exit)) (now (faults .exit)) (now («first_fault» .exit)) ⌝ }
+{
+    let d = segment::described(kind, block, exponent, first, count, ato);
+    let s = scrub::scrub(d, segment, place, blocks);
+    let a = s.answer;
+    *next = s.next;
+    *judged = s.judged;
+    *faults = s.faults;
+    *first_fault = s.first;
+    answer::number(a)
 }
 
 // Makes the parity of `k` members in `out`.

@@ -10,6 +10,7 @@ use Rattle.segment.proofs.length.Reads as length-reads
 use Rattle.segment.proofs.description_rule.Reads as description-rule-reads
 use Rattle.segment.proofs.segment_rules.Reads as segment-rules-reads
 use Rattle.segment.proofs.range_rule.Reads as range-rule-reads
+use Rattle.segment.proofs.place_rule.Reads as place-rule-reads
 use Rattle.segment.proofs.offset.Reads as offset-reads
 use Rattle.segment.proofs.span.Reads as span-reads
 
@@ -36,6 +37,9 @@ segment-rules κs a x y s t p q = p ∙ sym q
 
 pub range-rule : (κs : _) (a : _) (x y : _) (s t : _) → range-rule-reads.Post κs a x s → range-rule-reads.Post κs a y t → x ≡ y
 range-rule κs a x y s t p q = p ∙ sym q
+
+pub place-rule : (κs : _) (a : _) (x y : _) (s t : _) → place-rule-reads.Post κs a x s → place-rule-reads.Post κs a y t → x ≡ y
+place-rule κs a x y s t p q = p ∙ sym q
 
 pub offset : (κs : _) (a : _) (x y : _) (s t : _) → offset-reads.Post κs a x s → offset-reads.Post κs a y t → x ≡ y
 offset κs a x y s t p q = p ∙ sym q

@@ -15,6 +15,10 @@ unfoldable pub rangeRule : Description → ℕ → ℕ → Answer
 rangeRule d address count =
     refusedIf (ltb address (d .first) || ltb (d .first + d .count) (address + count)) reasons.AddressOutOfRange
 
+-- document 02: "7 for a place above N", a place being the number of blocks before it
+unfoldable pub placeRule : Description → ℕ → Answer
+placeRule d place = refusedIf (ltb (d .count) place) reasons.AddressOutOfRange
+
 -- where the block of an address begins in the segment, and how many bytes so many blocks have
 unfoldable pub offsetOf : Description → ℕ → ℕ
 offsetOf d address = (address - d .first) * storedOf d

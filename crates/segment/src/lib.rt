@@ -4,7 +4,7 @@ ghost use Prim.Native.Nat.{_+_, _^_, _≤_};
 ghost use lib.Dec.{leb};
 ghost use Rattle.segment.specs.Segment.{described, isSegment, Segment, intervalsOf, sizeOf, storedOf, lengthOf};
 ghost use Rattle.segment.specs.Rules.{descriptionRule, segmentRules};
-ghost use Rattle.segment.specs.Places.{rangeRule, offsetOf, spanOf};
+ghost use Rattle.segment.specs.Places.{rangeRule, placeRule, offsetOf, spanOf};
 use answer::Answer;
 use answer::Reason;
 
@@ -121,6 +121,13 @@ pub fn range_rule(d: Description, address: u64, count: u64) -> Answer
 {
     let outside = words::either(address < d.first, !ends(address, count, d.first + d.count));
     answer::refused_if(outside, Reason::AddressOutOfRange)
+}
+
+// Refusal 7, of a place above the number of blocks: the place of a block is the number of those before it.
+pub fn place_rule(d: Description, place: u64) -> Answer
+    ensures { λ r. ⌜ r ≡ placeRule d place ⌝ }
+{
+    answer::refused_if(d.count < place, Reason::AddressOutOfRange)
 }
 
 // Where the block of an address begins in the segment.
