@@ -206,10 +206,10 @@ uint64_t lamptassel_fill(uint64_t kind, uint64_t block, uint64_t exponent, uint6
  *   first_fault  the address of the first that has one, 0 where none has. With W = 0 it may
  *                be 0 either way, and *faults tells which
  *
- * A block has a fault if one of its intervals has: if a guard is wrong, or in type 1 a
- * reference tag is not the low four bytes of the block's address. Application tags are not
- * judged. A block that has the escape, as a fresh one has, and a block of type 0 have no
- * fault; they count as covered like any other.
+ * A block has a fault if an interval of it is listed in state guard or ref: if its guard is
+ * wrong, or in type 1 its reference tag is not the low four bytes of the block's address.
+ * Application tags are not judged. A block that has the escape, as a fresh one has, and a
+ * block of type 0 have no fault; they count as covered like any other.
  *
  * Returns
  *   0   good, whether blocks have faults or not
@@ -219,11 +219,11 @@ uint64_t lamptassel_fill(uint64_t kind, uint64_t block, uint64_t exponent, uint6
  * Where several apply: 1, then 2, then 7. With these three *next is place, and the other
  * numbers are 0.
  *
- * Nothing is kept between calls. A server begins at place 0, and each later call where the
- * last one stopped (place is passed by value: next may point to the variable that holds it).
- * It adds up *faults, and the first fault of all is the *first_fault of the first call whose
- * *faults is above 0. It is through when *next is N. A loop may also end when *judged is 0:
- * if blocks is above 0, that call was refused or began at N.
+ * Nothing is kept between calls. A server begins at place 0, and goes on with each call where
+ * the last one stopped (place is passed by value: next may point to the variable that holds
+ * it). It adds up *faults, and the first fault of all is the *first_fault of the first call
+ * whose *faults is above 0. It is through when *next is N. A loop may also end when *judged
+ * is 0: if blocks is above 0, that call was refused or began at N.
  *
  * Nobody may write the segment during a call. Between calls anybody may: each call tells of
  * its blocks as they were during that call, so a block that is written before the scrub
