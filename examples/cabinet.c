@@ -4,6 +4,8 @@
  *   cabinet incident                      tells the incident, step by step
  *   cabinet --new FILE P B e W N ATO      makes a fresh segment file
  *   cabinet FILE P B e W N ATO            serves the commands on standard input
+ *   cabinet --scrub FILE P B e W N ATO [BLOCKS]
+ *                                         judges what is stored, BLOCKS at a time (16)
  *
  * P B e W N ATO describe the segment: type, block length, exponent, first address, count,
  * ATO. P may also be the four numbers of a format choice, SPT,PROTECT,FMTPINFO,USAGE.
@@ -14,6 +16,9 @@
  * it compares; a READ without one is lent a buffer of the length that it wants. For each the
  * answer is printed, and the data of a good READ. Lines that begin with # are printed as they
  * are, empty ones skipped.
+ *
+ * A scrub prints how many blocks were judged, how many of them have a fault, and the address
+ * of the first that has one. It only reads the file.
  *
  * Exit status: 0, whatever the answers; 1 if the incident does not go as it should; 2 for
  * words or lines that cannot be understood; 3 if a file cannot be read or written.
@@ -43,6 +48,7 @@ struct cabinet {
     struct bytes segment;
     FILE *file;
     const char *name;
+    uint64_t step; /* the blocks that one call of a scrub looks at */
 };
 
 struct answer {
@@ -344,6 +350,30 @@ static enum status make_new(struct cabinet *c) {
     return status;
 }
 
+/* ---- Scrubbing ---- */
+
+/* Between two of these calls a server does other work. */
+static enum status scrub(struct cabinet *c) {
+    uint64_t place = 0, total = 0, first_of_all = 0, judged, faults, first_fault;
+    enum status status = from_file(&c->segment, c->name);
+    if (status != DONE)
+        return status;
+    do {
+        uint64_t number = lamptassel_scrub(c->kind, c->block, c->exponent, c->first, c->count, c->ato, c->segment.at,
+                                           c->segment.length, place, c->step, &place, &judged, &faults, &first_fault);
+        if (number != LAMPTASSEL_GOOD)
+            return usage("no scrub: ", meaning(number));
+        if (total == 0)
+            first_of_all = first_fault;
+        total += faults;
+    } while (judged > 0);
+    printf("judged %" PRIu64 ", faults %" PRIu64, place, total);
+    if (total > 0)
+        printf(", first at %" PRIu64, first_of_all);
+    putchar('\n');
+    return DONE;
+}
+
 /* ---- The incident ---- */
 
 enum { LOT = 32, STORED = LOT + 8, ADDRESS_A = 4096, ADDRESS_B = 4097, UNTOUCHED = 0xAA };
@@ -502,8 +532,10 @@ static enum status described(struct cabinet *c, char **words) {
 }
 
 static enum status on_file(enum status (*job)(struct cabinet *), char **words) {
-    struct cabinet c = {.name = words[0]};
+    struct cabinet c = {.name = words[0], .step = 16};
     enum status status = described(&c, words + 1);
+    if (status == DONE && words[7] != NULL)
+        status = whole_number(&c.step, words[7]);
     return close_cabinet(&c, status == DONE ? job(&c) : status);
 }
 
@@ -512,9 +544,12 @@ static enum status run(int count, char **words) {
         return incident();
     if (count == 9 && strcmp(words[1], "--new") == 0)
         return on_file(make_new, words + 2);
+    if ((count == 9 || count == 10) && strcmp(words[1], "--scrub") == 0)
+        return on_file(scrub, words + 2);
     if (count == 8 && words[1][0] != '-')
         return on_file(serve, words + 1);
-    return usage("usage: cabinet incident | cabinet --new FILE P B e W N ATO | cabinet FILE P B e W N ATO", "");
+    return usage("usage: cabinet incident | cabinet --new FILE P B e W N ATO | cabinet FILE P B e W N ATO | "
+                 "cabinet --scrub FILE P B e W N ATO [BLOCKS]", "");
 }
 
 int main(int count, char **words) {

@@ -3,26 +3,30 @@
  *
  * For C11 and C++17 on x86-64 Linux; link with -llamptassel. "Document 01" below is
  * "Blocks, commands and answers of the cabinet", whose words and numbers are used here;
- * comparing while verifying, with answer 15, is of document 02, its change requests.
+ * comparing while verifying, with answer 15, and scrubbing are of document 02, its change
+ * requests.
  *
  * Every function answers every input. A value out of range is refused; it is never cut to
  * fewer bits and never makes the program fail. What holds for all functions:
  *
  * - A buffer is lent as a pointer and its length in bytes. A pointer may be null where
- *   its length is 0. `address`, `place` and `kind` must never be null.
+ *   its length is 0. A pointer to a single number must never be null: `address` and `place`
+ *   of a command, `kind` of a format choice, and `next`, `judged`, `faults` and
+ *   `first_fault` of a scrub.
  * - What lies behind a const pointer is only read, and may overlap other buffers that are
  *   only read. What lies behind any other pointer must overlap nothing else that is lent;
- *   so `address` and `place` are two places. No alignment of buffers is asked for.
- * - Any answer but 0 leaves every lent byte as it was. Only `*address`, `*place` and
- *   `*kind` are written with every answer. (lamptassel_list returns a length and not an
- *   answer: it writes to `out` for every record, for a refused one the line that says so.)
+ *   so `address` and `place` are two places, and a scrub's numbers have four. No alignment
+ *   of buffers is asked for.
+ * - Any answer but 0 leaves every lent byte as it was. Only those single numbers are written
+ *   with every answer. (lamptassel_list returns a length and not an answer: it writes to
+ *   `out` for every record, for a refused one the line that says so.)
  * - Nothing is kept after the call: no allocation, no global state, no lock. A call needs
  *   less than 4 KB of stack.
  * - Any number of threads may call at once, as long as nobody else touches a buffer during
  *   the call that writes it, or writes one during a call that reads it. A READ and a VERIFY
  *   only read `segment`, a WRITE and a VERIFY only read `buffer`, though they are not const:
- *   so READs and VERIFYs of one segment may run at the same time, and what is only read may
- *   lie in read-only memory (a cast from const is allowed there).
+ *   so READs, VERIFYs and scrubs of one segment may run at the same time, and what is only
+ *   read may lie in read-only memory (a cast from const is allowed there).
  *
  * Six numbers describe a segment, in this order:
  *
@@ -63,7 +67,7 @@ enum lamptassel_answer {
     LAMPTASSEL_BUFFER_LENGTH_WRONG = 4,
     LAMPTASSEL_OPERATION_INVALID = 5,
     LAMPTASSEL_FIELD_INVALID = 6, /* in the command */
-    LAMPTASSEL_ADDRESS_OUT_OF_RANGE = 7,
+    LAMPTASSEL_ADDRESS_OUT_OF_RANGE = 7, /* or the place of a scrub */
     LAMPTASSEL_GUARD_CHECK_FAILED = 8,
     LAMPTASSEL_APPLICATION_CHECK_FAILED = 9,
     LAMPTASSEL_REFERENCE_CHECK_FAILED = 10,
@@ -186,6 +190,51 @@ uint64_t lamptassel_format_choice(uint64_t spt, uint64_t protect, uint64_t fmtpi
  */
 uint64_t lamptassel_fill(uint64_t kind, uint64_t block, uint64_t exponent, uint64_t first, uint64_t count,
                          uint64_t ato, uint8_t *segment, size_t segment_length);
+
+/*
+ * Scrubs some blocks of a segment: judges what is stored as lamptassel_list does, and moves
+ * nothing. Call by call a server goes through a segment between other work.
+ *
+ *   kind .. ato  the segment's six numbers
+ *   segment      its stored blocks, N * S bytes
+ *   place        where in the segment to begin: the number of blocks before it, 0 to N
+ *   blocks       how many blocks to look at, any number: covered are the smaller of it and
+ *                the N - place blocks left
+ *   next         the new place, behind the blocks covered
+ *   judged       how many blocks were covered: *next - place
+ *   faults       how many of them have a fault
+ *   first_fault  the address of the first that has one, 0 where none has. With W = 0 it may
+ *                be 0 either way, and *faults tells which
+ *
+ * A block has a fault if an interval of it is listed in state guard or ref: if its guard is
+ * wrong, or in type 1 its reference tag is not the low four bytes of the block's address.
+ * Application tags are not judged. A block that has the escape, as a fresh one has, and a
+ * block of type 0 have no fault; they count as covered like any other.
+ *
+ * Returns
+ *   0   good, whether blocks have faults or not
+ *   1   the six numbers describe no segment
+ *   2   segment_length is not N * S
+ *   7   place is above N
+ * Where several apply: 1, then 2, then 7. With these three *next is place, and the other
+ * numbers are 0.
+ *
+ * Nothing is kept between calls. A server begins at place 0, and goes on with each call where
+ * the last one stopped (place is passed by value: next may point to the variable that holds
+ * it). It adds up *faults, and the first fault of all is the *first_fault of the first call
+ * whose *faults is above 0. It is through when *next is N. A loop may also end when *judged
+ * is 0: if blocks is above 0, that call was refused or began at N.
+ *
+ * Nobody may write the segment during a call. Between calls anybody may: each call tells of
+ * its blocks as they were during that call, so a block that is written before the scrub
+ * comes to it is judged as written, and one that is written after it has passed is not
+ * looked at again. If nothing is written between the first call and the last, the sum of
+ * faults and the first fault are those of one call over all blocks, whatever the steps.
+ */
+uint64_t lamptassel_scrub(uint64_t kind, uint64_t block, uint64_t exponent, uint64_t first, uint64_t count,
+                          uint64_t ato, const uint8_t *segment, size_t segment_length, uint64_t place,
+                          uint64_t blocks, uint64_t *next, uint64_t *judged, uint64_t *faults,
+                          uint64_t *first_fault);
 
 /*
  * Stripes: k segments of one description of type 1 to 3, the members, and their parity,

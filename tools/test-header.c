@@ -49,6 +49,8 @@ static uint64_t (*const execute)(DESCRIPTION, uint8_t *, size_t, const uint8_t *
                                  uint64_t *) = lamptassel_execute;
 static uint64_t (*const format_choice)(uint64_t, uint64_t, uint64_t, uint64_t, uint64_t *) = lamptassel_format_choice;
 static uint64_t (*const fill)(DESCRIPTION, uint8_t *, size_t) = lamptassel_fill;
+static uint64_t (*const scrub)(DESCRIPTION, const uint8_t *, size_t, uint64_t, uint64_t, uint64_t *, uint64_t *,
+                               uint64_t *, uint64_t *) = lamptassel_scrub;
 static uint64_t (*const parity)(DESCRIPTION, uint64_t, const uint8_t *, size_t, uint8_t *, size_t) = lamptassel_parity;
 static uint64_t (*const rebuild)(DESCRIPTION, uint64_t, uint64_t, const uint8_t *, size_t, uint8_t *,
                                  size_t) = lamptassel_rebuild;
@@ -248,6 +250,122 @@ static void wide_address(void) {
     CHECK(leaves_all(on_m(&FAR, READ_16, 16, NULL, 32), LAMPTASSEL_REFERENCE_CHECK_FAILED, (UINT64_C(1) << 40) + 8, 1));
 }
 
+/* What a scrub hands back. */
+struct scrubbed {
+    uint64_t number, next, judged, faults, first_fault;
+};
+
+/* Of a segment of one block, at address 7. */
+static const struct scrubbed ONE_RIGHT = {LAMPTASSEL_GOOD, 1, 1, 0, 0}, ONE_WRONG = {LAMPTASSEL_GOOD, 1, 1, 1, 7};
+
+static struct scrubbed scrub_of(const struct description *d, const uint8_t *segment, size_t length, uint64_t place,
+                                uint64_t blocks, uint64_t held) {
+    struct scrubbed s = {0, held, held, held, held};
+    s.number = scrub(TOLD(d), segment, length, place, blocks, &s.next, &s.judged, &s.faults, &s.first_fault);
+    return s;
+}
+
+static int same(struct scrubbed one, struct scrubbed other) {
+    return memcmp(&one, &other, sizeof one) == 0;
+}
+
+/* A scrub of a segment's bytes hands this back, whatever stood in the four places before. */
+static int hands_back(const struct description *d, const uint8_t *segment, size_t length, uint64_t place,
+                      uint64_t blocks, struct scrubbed wanted) {
+    return same(scrub_of(d, segment, length, place, blocks, 0), wanted) &&
+           same(scrub_of(d, segment, length, place, blocks, UINT64_MAX), wanted);
+}
+
+static int scrubs(const struct description *d, uint64_t place, uint64_t blocks, uint64_t judged, uint64_t wrong,
+                  uint64_t first_wrong) {
+    const struct scrubbed wanted = {LAMPTASSEL_GOOD, place + judged, judged, wrong, first_wrong};
+    return hands_back(d, M, sizeof M, place, blocks, wanted);
+}
+
+static int scrub_refused(const struct description *d, const uint8_t *segment, size_t length, uint64_t place,
+                         uint64_t blocks, uint64_t number) {
+    const struct scrubbed wanted = {number, place, 0, 0, 0};
+    return hands_back(d, segment, length, place, blocks, wanted);
+}
+
+/* M in steps, as a server scrubs it: faults added up, and the first of all. The last call begins at the end. */
+static int scrubs_in_steps(const struct description *d, uint64_t blocks, uint64_t wrong, uint64_t first_wrong) {
+    const struct scrubbed wanted = {LAMPTASSEL_GOOD, 3, 3, wrong, first_wrong};
+    struct scrubbed all = {LAMPTASSEL_GOOD, 0, 0, 0, 0};
+    for (int calls = 0; calls <= 3; calls++) {
+        const struct scrubbed s = scrub_of(d, M, sizeof M, all.next, blocks, UINT64_MAX);
+        if (all.faults == 0)
+            all.first_fault = s.first_fault;
+        all.number |= s.number;
+        all.next = s.next;
+        all.judged += s.judged;
+        all.faults += s.faults;
+    }
+    return same(all, wanted);
+}
+
+/* M's second block has another's reference tag, its third the escape. */
+static void scrubbings(void) {
+    static const uint64_t STEPS[] = {1, 2, 3, 4, BEYOND_32_BITS, BEYOND_32_BITS + 1, UINT64_MAX};
+    CHECK(scrubs(&OF_M, 0, 3, 3, 1, 8));
+    CHECK(scrubs(&OF_M, 0, 1, 1, 0, 0));
+    CHECK(scrubs(&OF_M, 1, 1, 1, 1, 8));
+    CHECK(scrubs(&OF_M, 2, 1, 1, 0, 0));
+    CHECK(scrubs(&OF_M, 0, 2, 2, 1, 8));
+    CHECK(scrubs(&OF_M, 0, BEYOND_32_BITS, 3, 1, 8));
+    CHECK(scrubs(&OF_M, 0, UINT64_MAX, 3, 1, 8));
+    CHECK(scrubs(&OF_M, 1, UINT64_MAX, 2, 1, 8));
+    CHECK(scrubs(&OF_M, 2, UINT64_MAX, 1, 0, 0));
+    CHECK(scrubs(&OF_M, 3, UINT64_MAX, 0, 0, 0));
+    CHECK(scrubs(&OF_M, 3, 1, 0, 0, 0));
+    for (uint64_t place = 0; place <= 3; place++)
+        CHECK(scrubs(&OF_M, place, 0, 0, 0, 0));
+    for (size_t i = 0; i < ENTRIES(STEPS); i++)
+        CHECK(scrubs_in_steps(&OF_M, STEPS[i], 1, 8));
+}
+
+static void scrubbings_refused(void) {
+    static const uint64_t ABOVE_N[] = {4, BEYOND_32_BITS, BEYOND_32_BITS + 1, (UINT64_C(1) << 63) + 1, UINT64_MAX};
+    static const struct description NO_SEGMENT = {4, 8, 0, 7, 3, 0};
+    for (size_t i = 0; i < ENTRIES(ABOVE_N); i++) {
+        CHECK(scrub_refused(&OF_M, M, 48, ABOVE_N[i], 0, LAMPTASSEL_ADDRESS_OUT_OF_RANGE));
+        CHECK(scrub_refused(&OF_M, M, 48, ABOVE_N[i], 1, LAMPTASSEL_ADDRESS_OUT_OF_RANGE));
+        CHECK(scrub_refused(&OF_M, M, 47, ABOVE_N[i], 1, LAMPTASSEL_SEGMENT_LENGTH_WRONG));
+        CHECK(scrub_refused(&NO_SEGMENT, M, 47, ABOVE_N[i], 1, LAMPTASSEL_DESCRIPTION_BAD));
+    }
+    /* All that is asked for is there, or nothing is asked for, and the length is wrong. */
+    CHECK(scrub_refused(&OF_M, M, 32, 1, 1, LAMPTASSEL_SEGMENT_LENGTH_WRONG));
+    CHECK(scrub_refused(&OF_ONE_BLOCK, M, 48, 1, 0, LAMPTASSEL_SEGMENT_LENGTH_WRONG));
+}
+
+/* M's bytes by other descriptions, and blocks of two intervals. */
+static void scrubbings_by_type(void) {
+    static const struct description FROM_0 = {1, 8, 0, 0, 3, 0}, FAR = {1, 8, 0, (UINT64_C(1) << 40) + 7, 3, 0};
+    static const struct description TYPE_0 = {0, 16, 0, 7, 3, 0}, TYPE_2 = {2, 8, 0, 7, 3, 0};
+    static const struct description TYPE_3 = {3, 8, 0, 7, 3, 0}, TWO_INTERVALS = {3, 16, 1, 7, 1, 0};
+    uint8_t with_tag[16], first_wrong[32], both_wrong[32];
+    memcpy(with_tag, M, sizeof with_tag);
+    with_tag[10] = 0x12;
+    memcpy(first_wrong, M + 32, 16);
+    memcpy(first_wrong + 16, M, 16);
+    memset(both_wrong, 0x11, sizeof both_wrong);
+    /* The first fault is at address 0. */
+    CHECK(scrubs(&FROM_0, 0, 3, 3, 2, 0));
+    CHECK(scrubs(&FROM_0, 1, 2, 2, 1, 1));
+    CHECK(scrubs_in_steps(&FROM_0, 1, 2, 0));
+    CHECK(scrubs(&FAR, 0, 3, 3, 1, (UINT64_C(1) << 40) + 8));
+    CHECK(scrubs(&TYPE_0, 0, 3, 3, 0, 0));
+    CHECK(scrubs(&TYPE_2, 0, 3, 3, 0, 0));
+    /* The third block's guard is wrong, and its reference tag not that of type 3's escape. */
+    CHECK(scrubs(&TYPE_3, 0, 3, 3, 1, 9));
+    CHECK(hands_back(&TWO_INTERVALS, M, 32, 0, 1, ONE_RIGHT));
+    CHECK(hands_back(&TWO_INTERVALS, M + 16, 32, 0, 1, ONE_WRONG));
+    CHECK(hands_back(&TWO_INTERVALS, first_wrong, 32, 0, 1, ONE_WRONG));
+    CHECK(hands_back(&TWO_INTERVALS, both_wrong, 32, 0, 1, ONE_WRONG));
+    /* The application tag is not judged. */
+    CHECK(hands_back(&OF_ONE_BLOCK, with_tag, 16, 0, 1, ONE_RIGHT));
+}
+
 static void descriptions(void) {
     uint8_t members[2 * sizeof M], parts[3 * sizeof M], out[sizeof M], before[sizeof M];
     memset(members, 0x11, sizeof members);
@@ -258,6 +376,7 @@ static void descriptions(void) {
         const struct description *d = &TOO_WIDE[i];
         CHECK(leaves_all(on_m(d, READ_NOTHING, 10, NULL, 0), LAMPTASSEL_DESCRIPTION_BAD, 0, 0));
         CHECK(fill(TOLD(d), out, sizeof out) == LAMPTASSEL_DESCRIPTION_BAD);
+        CHECK(scrub_refused(d, M, sizeof M, 2, 1, LAMPTASSEL_DESCRIPTION_BAD));
         CHECK(parity(TOLD(d), 2, members, sizeof members, out, sizeof out) == LAMPTASSEL_DESCRIPTION_BAD);
         CHECK(rebuild(TOLD(d), 2, 0, parts, sizeof parts, out, sizeof out) == LAMPTASSEL_DESCRIPTION_BAD);
         CHECK(correct(TOLD(d), members, sizeof M, parts, sizeof M, out, sizeof out) == LAMPTASSEL_DESCRIPTION_BAD);
@@ -351,6 +470,7 @@ static void empty_buffers(void) {
     CHECK(execute(TOLD(&OF_M), bytes, 48, COMPARE_DATA, 10, NULL, 0, &address, &place) ==
           LAMPTASSEL_BUFFER_LENGTH_WRONG);
     CHECK(fill(TOLD(&OF_M), NULL, 0) == LAMPTASSEL_SEGMENT_LENGTH_WRONG);
+    CHECK(scrub_refused(&OF_M, NULL, 0, 1, 2, LAMPTASSEL_SEGMENT_LENGTH_WRONG));
     CHECK(parity(TOLD(&OF_M), 1, NULL, 0, bytes, 48) == LAMPTASSEL_STRIPE_SHAPE_BAD);
     CHECK(parity(TOLD(&OF_M), 1, M, 48, NULL, 0) == LAMPTASSEL_STRIPE_SHAPE_BAD);
     CHECK(rebuild(TOLD(&OF_ONE_BLOCK), 1, 0, NULL, 0, bytes, 16) == LAMPTASSEL_STRIPE_SHAPE_BAD);
@@ -398,8 +518,8 @@ static const uint8_t READ_BARE[10] = {0x28, 0, 0, 0, 0, 7, 0, 0, 1, 0};
 static const uint8_t READ_WHOLE[10] = {0x28, 0x20, 0, 0, 0, 7, 0, 0, 1, 0};
 static const uint8_t COMPARE_WHOLE[10] = {0x2F, 0x22, 0, 0, 0, 7, 0, 0, 1, 0};
 
-/* A thread that READs and VERIFYs two segments in read-only memory, a right one and one of the same data with a wrong
-   guard, and compares each with the other. */
+/* A thread that READs, VERIFYs and scrubs two segments in read-only memory, a right one and one of the same data with a
+   wrong guard, and compares each with the other. */
 struct reader {
     uint8_t *right, *wrong, *buffer;
     int faults;
@@ -426,6 +546,8 @@ static void *reads(void *told) {
         r->faults += memcmp(r->buffer, r->right, 4088) != 0;
         r->faults += !answers(r->right, VERIFY_ONE, NULL, 0, LAMPTASSEL_GOOD);
         r->faults += !answers(r->wrong, VERIFY_ONE, NULL, 0, LAMPTASSEL_GUARD_CHECK_FAILED);
+        r->faults += !hands_back(&OF_A_PAGE, r->right, PAGE, 0, 1, ONE_RIGHT);
+        r->faults += !hands_back(&OF_A_PAGE, r->wrong, PAGE, 0, 1, ONE_WRONG);
         r->faults += !answers(r->right, COMPARE_DATA, r->wrong, 4088, LAMPTASSEL_GOOD);
         r->faults += !answers(r->wrong, COMPARE_WHOLE, r->right, PAGE, LAMPTASSEL_BLOCK_DIFFERS);
     }
@@ -472,6 +594,8 @@ static void read_only_memory(void) {
     on_page(stored, VERIFY_ONE, NULL, 0, LAMPTASSEL_GOOD);
     on_page(lent, READ_BARE, other, 4088, LAMPTASSEL_GUARD_CHECK_FAILED);
     on_page(lent, VERIFY_ONE, NULL, 0, LAMPTASSEL_GUARD_CHECK_FAILED);
+    CHECK(hands_back(&OF_A_PAGE, stored, PAGE, 0, 1, ONE_RIGHT));
+    CHECK(hands_back(&OF_A_PAGE, lent, PAGE, 0, 1, ONE_WRONG));
     on_page(stored, COMPARE_DATA, lent, 4088, LAMPTASSEL_GOOD);
     on_page(lent, COMPARE_WHOLE, stored, PAGE, LAMPTASSEL_BLOCK_DIFFERS);
     CHECK(mprotect(other, PAGE, PROT_READ) == 0);
@@ -482,12 +606,13 @@ static void read_only_memory(void) {
     munmap(other, PAGE);
 }
 
-/* The deepest calls: numbers of 19 digits are listed, a command judges and stores, or judges and compares. */
+/* The deepest calls: numbers of 19 digits are listed, a command judges and stores, or judges and compares, a scrub meets
+   a right block, a wrong one and one with the escape. */
 static void deep_calls(void) {
     static const uint8_t RECORD[35] = {0,    0,    0,    31,   1,    1,    0,    0, 8, 0x7F,
                                        0xFF, 0xFF, 0xFF, 0xFF, 0xFF, 0xFF, 0xFE, 0, 1};
     static uint8_t out[256], segment[48], sent[16];
-    static uint64_t address, place;
+    static uint64_t address, place, next, judged, wrong, first_wrong;
     memcpy(segment, M, sizeof M);
     memcpy(sent, M, sizeof sent);
     list(RECORD, sizeof RECORD, out, sizeof out);
@@ -497,6 +622,7 @@ static void deep_calls(void) {
     execute(TOLD(&OF_M), segment, 48, COMPARE_DATA, 10, sent, 8, &address, &place);
     execute(TOLD(&OF_M), segment, 48, COMPARE_WHOLE, 10, sent, 16, &address, &place);
     fill(TOLD(&OF_M), segment, 48);
+    scrub(TOLD(&OF_M), M, 48, 0, 3, &next, &judged, &wrong, &first_wrong);
     parity(TOLD(&OF_ONE_BLOCK), 2, M, 32, out, 16);
     rebuild(TOLD(&OF_ONE_BLOCK), 2, 0, M, 48, out, 16);
     correct(TOLD(&OF_ONE_BLOCK), M, 16, M + 16, 16, out, 16);
@@ -539,6 +665,9 @@ int main(void) {
     comparisons();
     long_command();
     wide_address();
+    scrubbings();
+    scrubbings_refused();
+    scrubbings_by_type();
     descriptions();
     formats();
     fillings();
