@@ -51,9 +51,9 @@ module _ (d : Description) (place blocks : ℕ) where
       by false e = omega arith
 
 -- ---- a block: what is asked of it is the same wherever it stands
-pub rules-alike : (d : Description) (a b : ℕ) → rulesOf Stored d (sixteen Read a 1) ≡ rulesOf Stored d (sixteen Read b 1)
+pub rules-alike : (d : Description) (a b k m : ℕ) → rulesOf Stored d (sixteen Read a k) ≡ rulesOf Stored d (sixteen Read b m)
 unfolding rulesOf sixteen columnsOf applicationKnown referenceKnown
-rules-alike d a b = refl
+rules-alike d a b k m = refl
 
 module _ (d : Description) (at : ℕ) (g : Segment d) (h : at < d .count) where
   pub block-run : (s : List ℕ) → (d .kind ≡ 0 → ⊥) → length s ≡ storedOf d → Run (rulesOf Stored d (readBlock d at)) 1 (startOf d (readBlock d at)) s

@@ -59,7 +59,7 @@ here c =
 
 -- what it is asked by, and what is cut out for it
 asked : (d : Description) (at : ℕ) {c : Command} {r : Rules} → c ≡ sixteen Read (d .first) 1 → r ≡ rulesOf Stored d c → r ≡ rulesOf Stored d (readBlock d at)
-asked d at ec er = er ∙ ap (rulesOf Stored d) ec ∙ rules-alike d (d .first) (d .first + at)
+asked d at ec er = er ∙ ap (rulesOf Stored d) ec ∙ rules-alike d (d .first) (d .first + at) 1 1
 
 cut : (s : List ℕ) (i : ℕ) {size stored : ℕ} → size ≡ stored → i + size ≤ length s → length (take (i + size - i) (drop i s)) ≡ stored
 cut s i {size} e h = rw (part-at i size s) (length-take-le size (drop i s) (rw length-drop (omega arith)) ∙ e)

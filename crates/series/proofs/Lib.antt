@@ -1,0 +1,3 @@
+pub mod Demands
+pub mod Listed
+pub mod AsRead
