@@ -1,7 +1,8 @@
--- "Both sides of the line": the starred cases of document 01, and cases of document 02's "Compare while verifying", in one table.
+-- "Both sides of the line": the starred cases of document 01, and cases of document 02's "Compare while verifying" and "Scrubbing a few
+-- blocks at a time", in one table.
 use Prim.Native.Nat.{ℕ, zero, suc, _-_}
 use mathlib.Core.List.{List, [], _∷_, _++_, map}
-use lib.ListN.{replicate}
+use lib.ListN.{take, replicate}
 use Rattle.words.specs.BigEndian.{bytes}
 use Rattle.guard.specs.Guard.{guard}
 use Rattle.answer.specs.Answer.{numberOf, addressOf, placeOf}
@@ -10,6 +11,8 @@ use Rattle.segment.specs.declared.Description.{Description}
 use Rattle.segment.specs.Segment.{described}
 use Rattle.execute.specs.Lent.{Lent, lent}
 use Rattle.execute.specs.Execute.{executed}
+use Rattle.scrub.specs.declared.Scrubbed.{Scrubbed}
+use Rattle.scrub.specs.Scrub.{scrubbed}
 use Rattle.stripe.specs.Stripe as stripe
 
 -- what comes of a case, in the paper's numbers, with every lent byte afterwards
@@ -19,6 +22,8 @@ pub data Result : Type 0 where
   answered : ℕ → ℕ → ℕ → List ℕ → List ℕ → Result
   -- number, then the buffer
   made : ℕ → List ℕ → Result
+  -- number, the new place, the blocks judged, how many had a fault, the address of the first
+  handed : ℕ → ℕ → ℕ → ℕ → ℕ → Result
 
 -- data and its guard
 pub record Vector : Type 0 where
@@ -40,10 +45,19 @@ pub record ParityCase : Type 0 where
   pub members : List ℕ
   pub parity : List ℕ
 
+-- a scrub of a segment from a place on, over a number of blocks, and what is to come of it
+pub record ScrubCase : Type 0 where
+  pub description : Description
+  pub segment : List ℕ
+  pub place : ℕ
+  pub blocks : ℕ
+  pub outcome : Result
+
 pub data Case : Type 0 where
   guardOf : Vector → Case
   execute : CommandCase → Case
   parity : ParityCase → Case
+  scrub : ScrubCase → Case
 
 abbrev pub answerOf : Outcome Lent → Result
 answerOf o = answered (numberOf (o .answer)) (addressOf (o .answer)) (placeOf (o .answer)) (o .left .segment) (o .left .buffer)
@@ -51,17 +65,22 @@ answerOf o = answered (numberOf (o .answer)) (addressOf (o .answer)) (placeOf (o
 abbrev pub madeIn : Outcome (List ℕ) → Result
 madeIn o = made (numberOf (o .answer)) (o .left)
 
+abbrev pub handedBy : Scrubbed → Result
+handedBy x = handed (numberOf (x .answer)) (x .next) (x .judged) (x .faults) (x .first)
+
 -- by the definitions
 abbrev pub result : Case → Result
 result (guardOf v) = guarded (guard (v .bytes))
 result (execute c) = answerOf (executed (c .description) (c .command) (lent (c .segment) (c .buffer)))
 result (parity c) = madeIn (stripe.made (c .description) (c .count) (c .members) (replicate 16 0))
+result (scrub c) = handedBy (scrubbed (c .description) (c .segment) (c .place) (c .blocks))
 
 -- by the paper
 abbrev pub expected : Case → Result
 expected (guardOf v) = guarded (v .guarded)
 expected (execute c) = c .outcome
 expected (parity c) = made 0 (c .parity)
+expected (scrub c) = c .outcome
 
 -- n bytes, each one more, or one less, than the one before
 unfoldable pub up : ℕ → ℕ → List ℕ
@@ -194,5 +213,44 @@ parityCase =
       parity = bytes 16 0x0000000000000003_176E_0000_00000000;
     }
 
+-- "Scrubbing a few blocks at a time"
+abbrev scrubOf : Description → List ℕ → ℕ → ℕ → Result → Case
+scrubOf d s place blocks r = scrub (record { description = d; segment = s; place = place; blocks = blocks; outcome = r })
+
+unfoldable pub scrubbing : List Case
+scrubbing =
+    -- all of M: its second block, at 8, has a wrong reference tag; its third, with a wrong guard, has the escape
+    scrubOf describedM M 0 3 (handed 0 3 3 1 8)
+    -- the same block by block, "each starting where the last stopped"
+    ∷ scrubOf describedM M 0 1 (handed 0 1 1 0 0)
+    ∷ scrubOf describedM M 1 1 (handed 0 2 1 1 8)
+    ∷ scrubOf describedM M 2 1 (handed 0 3 1 0 0)
+    -- "the smaller of that number and the blocks left"
+    ∷ scrubOf describedM M 0 2 (handed 0 2 2 1 8)
+    ∷ scrubOf describedM M 1 3 (handed 0 3 2 1 8)
+    ∷ scrubOf describedM M 2 0xFFFFFFFFFFFFFFFF (handed 0 3 1 0 0)
+    -- "zero is allowed and moves nothing"; place N covers nothing
+    ∷ scrubOf describedM M 1 0 (handed 0 1 0 0 0)
+    ∷ scrubOf describedM M 3 3 (handed 0 3 0 0 0)
+    -- "7 for a place above N", with any number
+    ∷ scrubOf describedM M 4 0 (handed 7 4 0 0 0)
+    ∷ scrubOf describedM M 0xFFFFFFFFFFFFFFFF 1 (handed 7 0xFFFFFFFFFFFFFFFF 0 0 0)
+    -- "1, then 2, then 7": ATO 2, a byte too few, and a place above N; the last two; the first alone
+    ∷ scrubOf (described 1 8 0 7 3 2) (take 47 M) 4 1 (handed 1 4 0 0 0)
+    ∷ scrubOf describedM (take 47 M) 4 1 (handed 2 4 0 0 0)
+    ∷ scrubOf (described 1 8 0 7 3 2) M 1 1 (handed 1 1 0 0 0)
+    -- the second block twice: the first of two faults is named
+    ∷ scrubOf describedM (first ++ second ++ second) 0 3 (handed 0 3 3 2 8)
+    -- W 0: the first block has a fault, and its address is 0
+    ∷ scrubOf (described 1 8 0 0 2 0) (first ++ second) 0 2 (handed 0 2 2 2 0)
+    -- type 2, B 8, e 1: both guards of the first block are wrong, and it counts once; the reference tag is not judged; the second block has
+    -- a wrong guard beside the escape of its other interval
+    ∷ scrubOf (described 2 8 1 5 2 1) (bytes 24 0x00000001_8BB6_0000_FFFFFFFF_00000002_9CD8_0000_00000000 ++ bytes 24 0x00000001_8BB6_0000_00000000_00000002_9CD8_FFFF_00000000) 0 2 (handed 0 2 2 1 5)
+    -- type 3: FFFFh alone is not the escape
+    ∷ scrubOf (described 3 8 0 5 2 0) (bytes 16 0x0000000000000001_8BB6_FFFF_FFFFFFFF ++ bytes 16 0x0000000000000001_8BB6_FFFF_FFFFFFFE) 0 2 (handed 0 2 2 1 6)
+    -- type 0 has no faults, and its blocks count as judged
+    ∷ scrubOf (described 0 8 0 5 2 0) (user 0x01 ++ user 0x02) 0 9 (handed 0 2 2 0 0)
+    ∷ []
+
 unfoldable pub cases : List Case
-cases = map guardOf vectors ++ onSegments ++ comparing ++ (parity parityCase ∷ [])
+cases = map guardOf vectors ++ onSegments ++ comparing ++ scrubbing ++ (parity parityCase ∷ [])

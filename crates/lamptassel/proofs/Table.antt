@@ -10,7 +10,8 @@ use Rattle.answer.specs.declared.Answer.{Answer}
 use Rattle.answer.proofs.Demands.{in-table}
 use Rattle.execute.specs.Lent.{Lent}
 use Rattle.format.specs.declared.Choice.{Choice}
-use Rattle.lamptassel.specs.Answers.{Executed, Chosen, Answered}
+use Rattle.scrub.specs.declared.Scrubbed.{Scrubbed}
+use Rattle.lamptassel.specs.Answers.{Executed, Chosen, Answered, HandedBack}
 
 told : (a : Answer) (r : ℕ) → r ≡ numberOf a → inTable r ≡ true
 told a r e = ap inTable e ∙ in-table a
@@ -26,3 +27,7 @@ format-choice-in-table c r t x = told (c .answer) r (x .answer)
 -- `lamptassel_fill`, `lamptassel_parity`, `lamptassel_rebuild`, `lamptassel_correct`, `lamptassel_guards`
 pub answered-in-table : (o : Outcome (List ℕ)) (r : ℕ) (l : List ℕ) → Answered o r l → inTable r ≡ true
 answered-in-table o r l x = told (o .answer) r (x .answer)
+
+-- `lamptassel_scrub`
+pub scrub-in-table : (o : Scrubbed) (r n j f a : ℕ) → HandedBack o r n j f a → inTable r ≡ true
+scrub-in-table o r n j f a x = told (o .answer) r (x .answer)

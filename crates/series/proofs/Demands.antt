@@ -13,10 +13,13 @@ use lib.Dec.{eqb, leb, ltb}
 use lib.ListN.{length}
 use Rattle.answer.specs.Answer.{isGood}
 use Rattle.answer.specs.declared.Answer.{Answer}
-use Rattle.answer.proofs.Ladder.{both-good, good-is}
+use Rattle.answer.specs.declared.Answer.the-variants as answers
+use Rattle.answer.proofs.Ladder.{both-good}
 use Rattle.segment.specs.declared.Description.{Description}
+use Rattle.segment.specs.Segment.{Segment, lengthOf}
 use Rattle.segment.specs.Rules.{segmentRules}
 use Rattle.segment.specs.Places.{placeRule}
+use Rattle.segment.proofs.Rules.{described-rule, length-right}
 use Rattle.scrub.specs.declared.Scrubbed.{Scrubbed}
 use Rattle.scrub.specs.Scrub.{faultyAt, faultsFrom, firstFrom, coveredOf, scrubRules, after, refused, scrubbed}
 use Rattle.scrub.proofs.Laws.{covered-all, covered-left, covered-most, in-order}
@@ -61,6 +64,21 @@ module _ (d : Description) (s : List ℕ) (place blocks : ℕ) where
   -- "Refusals: 1, then 2, then 7 for a place above N."
   pub answer-is-the-rules : scrubbed d s place blocks .answer ≡ scrubRules d (length s) place
   answer-is-the-rules = told .answer
+
+  -- "A refused call hands back the place it was given and zeros."
+  pub refused-hands-back : isGood (scrubbed d s place blocks .answer) ≡ false
+      → totalOf (scrubbed d s place blocks) ≡ record { next = place; judged = 0; faults = 0; first = 0 }
+  refused-hands-back e = ap totalOf (call-refused (sym (ap isGood answer-is-the-rules) ∙ e))
+
+  -- good exactly where it is a segment of so many bytes and the place is not above N: a fault is no refusal
+  pub good-exactly : (scrubbed d s place blocks .answer ≡ answers.Good) ↔ (Segment d × (lengthOf d ≡ length s) × (place ≤ d .count))
+  unfolding scrubRules placeRule
+  good-exactly = (
+    λ e. in-order d (length s) place (ap isGood (sym answer-is-the-rules ∙ e)),
+    λ fits.
+        answer-is-the-rules
+        ∙ rw (length-right d (length s) (described-rule d (fits .0)) (sym (fits .1)), le-ltb (d .count) place (fits .2)) refl,
+  )
 
   -- "The count of blocks judged equals the distance moved"
   pub count-is-the-distance : scrubbed d s place blocks .next ≡ place + scrubbed d s place blocks .judged
