@@ -50,7 +50,7 @@ pub fn scrub(desc: &Description, segment: &[u8], place: u64, blocks: u64) -> Cal
 }
 
 /// All blocks; all but the first; the last alone.
-fn scrubs(desc: &Description, segment: &[u8], put: Put<'_>) -> Held {
+fn put_parts(desc: &Description, segment: &[u8], put: Put<'_>) -> Held {
     put(scrub(desc, segment, 0, desc.n))?;
     put(scrub(desc, segment, 1, desc.n))?;
     put(scrub(desc, segment, desc.n - 1, 1))
@@ -134,7 +134,7 @@ fn every_bit(desc: &Description, numbers: &mut Numbers, put: Put<'_>) -> Held {
 
 /// The marks of an escape, or a part of them, in each interval, beside each thing that
 /// may be the matter with each; and all of them but one bit, beside a wrong guard.
-pub fn every_mark(desc: &Description, numbers: &mut Numbers, put: Put<'_>) -> Held {
+fn every_mark(desc: &Description, numbers: &mut Numbers, put: Put<'_>) -> Held {
     let sizes = Intervals::of(desc);
     let right = right(desc, numbers);
     if sizes.step == sizes.data {
@@ -173,10 +173,10 @@ fn every_two_faults(desc: &Description, numbers: &mut Numbers, put: Put<'_>) -> 
             let mut two = right.clone();
             turn(desc, &mut two, one);
             turn(desc, &mut two, other);
-            scrubs(desc, &two, put)?;
+            put_parts(desc, &two, put)?;
             let mut run = right.clone();
             (one..=other).for_each(|interval| turn(desc, &mut run, interval));
-            scrubs(desc, &run, put)?;
+            put_parts(desc, &run, put)?;
         }
     }
     Ok(())
@@ -284,7 +284,7 @@ pub fn every_address(put: Put<'_>) -> Held {
             let desc = described(p, 8, e, w, 4);
             let sizes = Intervals::of(&desc);
             let right = right(&desc, numbers);
-            scrubs(&desc, &right, put)?;
+            put_parts(&desc, &right, put)?;
             for block in 0..4 {
                 let interval = first_interval(&desc, block) * sizes.step;
                 let fields = interval + sizes.data;
@@ -296,7 +296,7 @@ pub fn every_address(put: Put<'_>) -> Held {
                 for at in bytes {
                     let mut segment = right.clone();
                     segment[at] ^= 1;
-                    scrubs(&desc, &segment, put)?;
+                    put_parts(&desc, &segment, put)?;
                 }
             }
         }
@@ -316,11 +316,11 @@ pub fn every_count(put: Put<'_>) -> Held {
             if n > 1 {
                 turn(&desc, &mut segment, first_interval(&desc, n - 1));
             }
-            scrubs(&desc, &segment, put)?;
+            put_parts(&desc, &segment, put)?;
             for place in [n, n + 1] {
                 put(scrub(&desc, &segment, place, 1))?;
             }
-            // All but the last one, wherever they begin.
+            // All but the last one.
             put(scrub(&desc, &segment, 0, n - 1))?;
             for block in 1..n.saturating_sub(1) {
                 turn(&desc, &mut segment, first_interval(&desc, block));

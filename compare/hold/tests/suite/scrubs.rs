@@ -583,7 +583,7 @@ fn another_end_of_the_places() {
 
 #[test]
 fn refusals_in_another_order() {
-    let wrong_length = |call: &Passing<'_>| call.lent[0].length % 8 != 0;
+    let wrong_length = |call: &Passing<'_>| !call.lent[0].length.is_multiple_of(8);
     let beyond = |call: &Passing<'_>| {
         let (place, n) = (call.numbers[6], call.numbers[4]);
         place > n
