@@ -52,7 +52,7 @@ pub fn run(options: &Options, out: Output<'_>) -> io::Result<Verdict> {
 /// A segment to be scrubbed over and over.
 struct Segment {
     desc: Description,
-    /// Right but for two blocks.
+    /// Right but for the last block.
     bytes: Vec<u8>,
     /// How often a pass goes through it.
     times: usize,
@@ -66,9 +66,7 @@ impl Segment {
         let desc = described(block, exponent, count);
         let mut bytes = good_segment(&desc);
         let stored = bytes.len() / count;
-        for wrong in [count / 2, count - 1] {
-            bytes[wrong * stored] ^= 0x10;
-        }
+        bytes[(count - 1) * stored] ^= 0x10;
         Segment {
             desc,
             bytes,

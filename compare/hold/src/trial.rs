@@ -1,5 +1,5 @@
-//! A run of calls: the systematic ones, part by part, and as many random calls as
-//! wanted.
+//! A run of calls: the systematic ones, part by part, and as many random calls and
+//! series as wanted.
 
 use crate::call::{Call, Function, Library};
 use crate::compare::{Difference, compare};

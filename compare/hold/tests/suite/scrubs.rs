@@ -207,7 +207,7 @@ fn a_sum_of_place_and_blocks_that_wraps() {
             ),
         }
     });
-    // And one that is not to be had: a panic, or a refusal.
+    // Such a sum refused.
     found_if_good(&|call, right| {
         let (place, blocks) = asked(call);
         let answer = if place.checked_add(blocks).is_some() {
@@ -342,6 +342,18 @@ fn a_fault_at_address_0_taken_for_none() {
 #[test]
 fn intervals_counted_for_blocks() {
     found_if_good(&|call, right| counted(call, right, |block| block.wrong()));
+    // What is wrong with them.
+    found_if_good(&|call, right| {
+        counted(call, right, |block| {
+            let wrong = |one: Interval<'_>| {
+                let [guard, reference] =
+                    [block.guard_is_wrong(&one), block.reference_is_wrong(&one)];
+                usize::from(guard) + usize::from(reference)
+            };
+            let most = block.intervals().map(wrong).max().unwrap_or(0);
+            if block.escaped() { 0 } else { most }
+        })
+    });
     // Skipped ones with them, or blocks that were right.
     found_if_good(&|call, right| {
         counted(call, right, |block| {
