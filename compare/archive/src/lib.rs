@@ -1,7 +1,7 @@
 //! The static archive's functions: as C declares them, and on slices and the
 //! reference's description, so that both take the same input.
 
-use reference::{Description, Outcome};
+use reference::{Description, Outcome, Scrubbed};
 
 /// The declarations. Every slice is a pointer and a length; whatever is only
 /// read has a `const` pointer.
@@ -39,6 +39,22 @@ pub mod c {
             ato: u64,
             segment: *mut u8,
             segment_length: usize,
+        ) -> u64;
+        pub fn lamptassel_scrub(
+            kind: u64,
+            block: u64,
+            exponent: u64,
+            first: u64,
+            count: u64,
+            ato: u64,
+            segment: *const u8,
+            segment_length: usize,
+            place: u64,
+            blocks: u64,
+            next: *mut u64,
+            judged: *mut u64,
+            faults: *mut u64,
+            first_fault: *mut u64,
         ) -> u64;
         pub fn lamptassel_parity(
             kind: u64,
@@ -144,6 +160,38 @@ pub fn format(spt: u64, protect: u64, fmtpinfo: u64, usage: u64) -> (u64, u64) {
 pub fn fill(d: &Description, segment: &mut [u8]) -> u64 {
     let (pointer, length) = (segment.as_mut_ptr(), segment.len());
     unsafe { c::lamptassel_fill(d.p, d.b, d.e, d.w, d.n, d.ato, pointer, length) }
+}
+
+/// The answer's number, the new place, the blocks judged, how many had a fault and
+/// the address of the first.
+#[inline(always)]
+pub fn scrub(d: &Description, segment: &[u8], place: u64, blocks: u64) -> Scrubbed {
+    let (mut next, mut judged, mut faults, mut first_fault) = (0, 0, 0, 0);
+    let answer = unsafe {
+        c::lamptassel_scrub(
+            d.p,
+            d.b,
+            d.e,
+            d.w,
+            d.n,
+            d.ato,
+            segment.as_ptr(),
+            segment.len(),
+            place,
+            blocks,
+            &mut next,
+            &mut judged,
+            &mut faults,
+            &mut first_fault,
+        )
+    };
+    Scrubbed {
+        answer,
+        next,
+        judged,
+        faults,
+        first_fault,
+    }
 }
 
 #[inline(always)]

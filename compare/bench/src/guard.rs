@@ -5,7 +5,7 @@ use std::io;
 
 use crate::bytes::{BLOCK, RUN, noise};
 use crate::options::Options;
-use crate::table::{Case, Output, Table, Verdict, measure};
+use crate::table::{Case, OURS_AND_RUST, Output, Table, Verdict, measure};
 
 /// The bytes of a guard.
 const GUARD: usize = 2;
@@ -46,6 +46,7 @@ pub fn run(options: &Options, out: Output<'_>) -> io::Result<Verdict> {
             "guard: {} blocks of {BLOCK} bytes, a call for each run of {RUN} bytes",
             options.blocks
         ),
+        ways: OURS_AND_RUST,
         names: "bytes",
         unit: "interval",
         cases: SIZES
@@ -58,6 +59,7 @@ pub fn run(options: &Options, out: Output<'_>) -> io::Result<Verdict> {
              copying the table of 512 bytes",
             options.blocks
         ),
+        ways: OURS_AND_RUST,
         names: "bytes",
         unit: "interval",
         cases: SIZES
@@ -82,7 +84,7 @@ fn case(data: &[u8], size: usize, limit: Option<f64>, ours: Guards, rust: Guards
         written: 0..count * GUARD,
         limit,
         ours: Box::new(move |results| ours(data, black_box(size), results)),
-        rust: Box::new(move |results| rust(data, black_box(size), results)),
+        other: Box::new(move |results| rust(data, black_box(size), results)),
     }
 }
 

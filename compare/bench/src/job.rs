@@ -9,7 +9,7 @@ use reference::{Description, Outcome};
 
 use crate::bytes::{noise, repeats};
 use crate::options::Options;
-use crate::table::{Case, Output, Pass, Table, Verdict, measure};
+use crate::table::{Case, OURS_AND_RUST, Output, Pass, Table, Verdict, measure};
 
 #[derive(Clone, Copy, PartialEq, Eq)]
 pub enum Operation {
@@ -79,25 +79,30 @@ pub struct Job {
     written: Range<usize>,
 }
 
+/// A segment of `count` blocks of `block` bytes: of type 1 for exponent 0, else of
+/// type 2.
+pub fn described(block: usize, exponent: u32, count: usize) -> Description {
+    let long = exponent > 0;
+    Description {
+        p: if long { 2 } else { 1 },
+        b: block as u64,
+        e: exponent.into(),
+        w: FIRST,
+        n: count as u64,
+        ato: long.into(),
+    }
+}
+
 impl Job {
-    /// A request that is good, on a segment of `count` blocks of `block` bytes:
-    /// of type 1 for exponent 0, else of type 2 with 32-byte commands and all
-    /// fields checked.
+    /// A request that is good, on a segment of `count` blocks of `block` bytes; in
+    /// type 2 with 32-byte commands and all fields checked.
     pub fn new(block: usize, exponent: u32, count: usize, request: Request) -> Job {
-        let long = exponent > 0;
-        let desc = Description {
-            p: if long { 2 } else { 1 },
-            b: block as u64,
-            e: exponent.into(),
-            w: FIRST,
-            n: count as u64,
-            ato: long.into(),
-        };
+        let desc = described(block, exponent, count);
         let transfer = request.blocks.len();
         let stored = block + (8 << exponent);
         let place = request.blocks.start * stored..request.blocks.end * stored;
         let brought = if request.code == 0 { block } else { stored } * transfer;
-        let mut segment = good_segment(&desc, count * stored);
+        let mut segment = good_segment(&desc);
         let mut sent = Vec::new();
         let (lent, moved, changed, written) = match request.operation {
             Operation::Read => (segment, place, brought, 0..brought),
@@ -203,7 +208,7 @@ impl Line {
             written: job.written.clone(),
             limit: Some(self.limit),
             ours: pass(archive::execute),
-            rust: pass(reference::execute),
+            other: pass(reference::execute),
         }
     }
 }
@@ -226,6 +231,7 @@ impl Jobs<'_> {
         let cases = self.lines.iter().map(|line| line.case(options.blocks));
         let table = Table {
             title: self.title.clone(),
+            ways: OURS_AND_RUST,
             names: self.names,
             unit: self.unit,
             cases: cases.collect(),
@@ -235,8 +241,9 @@ impl Jobs<'_> {
 }
 
 /// A segment of which every interval is right.
-fn good_segment(desc: &Description, length: usize) -> Vec<u8> {
-    let mut segment = vec![0; length];
+pub fn good_segment(desc: &Description) -> Vec<u8> {
+    let length = desc.segment_length().expect("a good description");
+    let mut segment = vec![0; length as usize];
     let whole = Request {
         operation: Operation::Write,
         code: 0,

@@ -9,6 +9,7 @@ mod growth;
 mod guard;
 mod job;
 mod options;
+mod scrub;
 mod stripes;
 mod table;
 
@@ -25,10 +26,11 @@ type Table = (
     fn(&Options, Output<'_>) -> io::Result<Verdict>,
 );
 
-const TABLES: [Table; 4] = [
+const TABLES: [Table; 5] = [
     ("guard", guard::run),
     ("commands", commands::run),
     ("growth", growth::run),
+    ("scrub", scrub::run),
     ("stripes", stripes::run),
 ];
 

@@ -7,7 +7,7 @@ use reference::Description;
 
 use crate::bytes::{BLOCK, noise, repeats};
 use crate::options::Options;
-use crate::table::{Case, Output, Pass, Table, Verdict, measure};
+use crate::table::{Case, OURS_AND_RUST, Output, Pass, Table, Verdict, measure};
 
 /// Nine tenths of the speed.
 const LIMIT: f64 = 1.0 / 0.9;
@@ -30,6 +30,7 @@ pub fn run(options: &Options, out: Output<'_>) -> io::Result<Verdict> {
     let stripes = BLOCKS.map(|count| Stripe::new(options.blocks, count, parts));
     let table = Table {
         title: format!("stripes: blocks of {BLOCK} bytes, members small and large"),
+        ways: OURS_AND_RUST,
         names: "parts blocks",
         unit: "block",
         cases: stripes.iter().flat_map(Stripe::cases).collect(),
@@ -121,7 +122,7 @@ impl<'a> Stripe<'a> {
             written,
             limit: Some(LIMIT),
             ours: pass(times, ours),
-            rust: pass(times, rust),
+            other: pass(times, rust),
         }
     }
 }

@@ -10,8 +10,13 @@ pub type Output<'a> = &'a mut dyn Write;
 /// Does some work and leaves its results in a list of bytes.
 pub type Pass<'a> = Box<dyn FnMut(&mut [u8]) + 'a>;
 
+/// The ways of most tables: the archive's and the reference's.
+pub const OURS_AND_RUST: [&str; 2] = ["ours", "rust"];
+
 pub struct Table<'a> {
     pub title: String,
+    /// What the two ways are called.
+    pub ways: [&'a str; 2],
     /// The heading of the names.
     pub names: &'a str,
     /// What the times are given for.
@@ -20,7 +25,7 @@ pub struct Table<'a> {
 }
 
 /// One line of a table: a pass done by the archive and the same pass done by the
-/// reference.
+/// reference, or by the archive in another way.
 pub struct Case<'a> {
     pub name: String,
     /// How many units one pass does.
@@ -29,10 +34,10 @@ pub struct Case<'a> {
     pub results: usize,
     /// Those of them that it must write; the others are zero before it.
     pub written: Range<usize>,
-    /// The greatest ratio ours/Rust that is wanted.
+    /// The greatest ratio of the first to the second that is wanted.
     pub limit: Option<f64>,
     pub ours: Pass<'a>,
-    pub rust: Pass<'a>,
+    pub other: Pass<'a>,
 }
 
 /// What a table found.
@@ -56,19 +61,19 @@ impl Verdict {
 /// The best time of each way, and whether they ever gave different results.
 struct Best {
     ours: Duration,
-    rust: Duration,
+    other: Duration,
     differ: bool,
 }
 
 impl Best {
     const NONE: Best = Best {
         ours: Duration::MAX,
-        rust: Duration::MAX,
+        other: Duration::MAX,
         differ: false,
     };
 
     fn ratio(&self) -> f64 {
-        self.ours.as_secs_f64() / self.rust.as_secs_f64()
+        self.ours.as_secs_f64() / self.other.as_secs_f64()
     }
 }
 
@@ -87,24 +92,24 @@ pub fn measure(out: Output<'_>, rounds: usize, mut table: Table<'_>) -> io::Resu
 fn race(rounds: usize, cases: &mut [Case<'_>]) -> Vec<Best> {
     let mut bests: Vec<Best> = cases.iter().map(|_| Best::NONE).collect();
     let longest = cases.iter().map(|case| case.results).max().unwrap_or(0);
-    let (mut ours, mut rust) = (vec![0; longest], vec![0; longest]);
+    let (mut ours, mut other) = (vec![0; longest], vec![0; longest]);
     for round in 0..rounds {
         for (case, best) in cases.iter_mut().zip(&mut bests) {
-            let (ours, rust) = (&mut ours[..case.results], &mut rust[..case.results]);
+            let (ours, other) = (&mut ours[..case.results], &mut other[..case.results]);
             ours.fill(0);
-            rust.fill(0);
+            other.fill(0);
             // Different from each other, so that what both leave unwritten shows too.
             ours[case.written.clone()].fill(0x55);
-            rust[case.written.clone()].fill(0xAA);
+            other[case.written.clone()].fill(0xAA);
             // Each way goes first in every other round.
             if round % 2 == 0 {
                 timed(&mut case.ours, ours, &mut best.ours);
-                timed(&mut case.rust, rust, &mut best.rust);
+                timed(&mut case.other, other, &mut best.other);
             } else {
-                timed(&mut case.rust, rust, &mut best.rust);
+                timed(&mut case.other, other, &mut best.other);
                 timed(&mut case.ours, ours, &mut best.ours);
             }
-            best.differ |= ours != rust;
+            best.differ |= ours != other;
         }
     }
     bests
@@ -119,23 +124,25 @@ fn timed(pass: &mut dyn FnMut(&mut [u8]), results: &mut [u8], best: &mut Duratio
 fn print(out: Output<'_>, table: &Table<'_>, bests: &[Best]) -> io::Result<()> {
     let names = table.cases.iter().map(|case| case.name.len());
     let width = names.chain([table.names.len()]).max().unwrap_or(0);
-    let (ours, rust) = (
-        format!("ours ns/{}", table.unit),
-        format!("rust ns/{}", table.unit),
-    );
-    writeln!(out, "{:>width$}  {ours}  {rust}  ratio  limit", table.names)?;
+    let [ours, other] = table.ways.map(|way| format!("{way} ns/{}", table.unit));
+    writeln!(
+        out,
+        "{:>width$}  {ours}  {other}  ratio  limit",
+        table.names
+    )?;
     for (case, best) in table.cases.iter().zip(bests) {
         writeln!(
             out,
-            "{:>width$}  {:w$.2}  {:w$.2}  {:5.2}  {:>5}{}{}",
+            "{:>width$}  {:w$.2}  {:v$.2}  {:5.2}  {:>5}{}{}",
             case.name,
             nanoseconds(best.ours, case.count),
-            nanoseconds(best.rust, case.count),
+            nanoseconds(best.other, case.count),
             best.ratio(),
             case.limit.map_or("-".into(), |limit| format!("{limit:.2}")),
             if over(case, best) { "  over" } else { "" },
             if best.differ { "  DIFFERENT" } else { "" },
             w = ours.len(),
+            v = other.len(),
         )?;
     }
     writeln!(out)

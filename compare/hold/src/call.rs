@@ -9,6 +9,7 @@ pub enum Function {
     Execute,
     Format,
     Fill,
+    Scrub,
     Parity,
     Rebuild,
     Correct,
@@ -20,10 +21,11 @@ pub enum Function {
 }
 
 impl Function {
-    pub const ALL: [Function; 11] = [
+    pub const ALL: [Function; 12] = [
         Function::Execute,
         Function::Format,
         Function::Fill,
+        Function::Scrub,
         Function::Parity,
         Function::Rebuild,
         Function::Correct,
@@ -39,6 +41,7 @@ impl Function {
             Function::Execute => "execute",
             Function::Format => "format",
             Function::Fill => "fill",
+            Function::Scrub => "scrub",
             Function::Parity => "parity",
             Function::Rebuild => "rebuild",
             Function::Correct => "correct",
@@ -58,6 +61,7 @@ impl Function {
             Function::Execute => &[0, 1, 2, 3, 4, 5, 6, 7, 8, 9, 10, 15],
             Function::Format => &[0, 6, 12],
             Function::Fill => &[0, 1, 2],
+            Function::Scrub => &[0, 1, 2, 7],
             Function::Parity | Function::Rebuild | Function::Correct => &[0, 1, 11],
             Function::Guards => &[0, 4],
             Function::List => &[0, 1, 2, 13],
@@ -70,6 +74,7 @@ impl Function {
         match self {
             Function::Execute => 2,
             Function::Format => 1,
+            Function::Scrub => 4,
             _ => 0,
         }
     }

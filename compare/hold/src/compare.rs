@@ -7,13 +7,35 @@ use crate::fence::{Places, Room, Rooms, Way};
 use crate::told::{Told, tell};
 use crate::watch;
 
-/// A call on which library and reference part.
+/// A call on which two sides part.
 #[derive(Debug)]
 pub struct Difference {
     pub call: Call,
     pub way: Way,
+    pub sides: Sides,
     pub wanted: Left,
     pub got: Left,
+}
+
+/// Who says what is wanted, and who has something else.
+#[derive(Clone, Debug, PartialEq, Eq)]
+pub enum Sides {
+    ReferenceAndLibrary,
+    /// The library's scrub over all blocks, and a series of them with these numbers of
+    /// blocks.
+    OneCallAndSeries(Vec<u64>),
+    /// The library's listing, and its scrub over all blocks.
+    ListingAndOneCall,
+}
+
+impl Sides {
+    fn names(&self) -> [&'static str; 2] {
+        match self {
+            Sides::ReferenceAndLibrary => ["reference", "library"],
+            Sides::OneCallAndSeries(_) => ["one call", "series"],
+            Sides::ListingAndOneCall => ["listing", "one call"],
+        }
+    }
 }
 
 /// The most bytes that are also lent between two fences.
@@ -38,6 +60,7 @@ pub fn compare(
             return Err(Box::new(Difference {
                 call,
                 way,
+                sides: Sides::ReferenceAndLibrary,
                 wanted: left,
                 got,
             }));
@@ -47,9 +70,49 @@ pub fn compare(
     Ok(answer)
 }
 
+/// Calls the library alone: what it leaves.
+pub fn ask(library: &impl Library, call: &Call, rooms: &mut Rooms, way: Way) -> Left {
+    let rooms = rooms.put(call, way);
+    let handed = watch::over(call, way, || hand(library, call, rooms));
+    handed.with_bytes(rooms)
+}
+
 /// Calls the library with the copies in the rooms; an error is what it leaves
 /// where that is not what is wanted.
 fn run(library: &impl Library, call: &Call, wanted: &Left, rooms: &mut [Room]) -> Result<(), Left> {
+    let handed = hand(library, call, rooms);
+    let Handed {
+        returned,
+        places,
+        trespassed,
+    } = &handed;
+    if (returned, places, trespassed) == (&wanted.returned, &wanted.places, &wanted.trespassed)
+        && rooms.iter().map(Room::bytes).eq(&wanted.lent)
+    {
+        return Ok(());
+    }
+    Err(handed.with_bytes(rooms))
+}
+
+/// What a call leaves but for the lent bytes.
+struct Handed {
+    returned: u64,
+    places: Vec<u64>,
+    trespassed: Vec<usize>,
+}
+
+impl Handed {
+    fn with_bytes(self, rooms: &[Room]) -> Left {
+        Left {
+            returned: self.returned,
+            places: self.places,
+            lent: rooms.iter().map(|room| room.bytes().to_vec()).collect(),
+            trespassed: self.trespassed,
+        }
+    }
+}
+
+fn hand(library: &impl Library, call: &Call, rooms: &mut [Room]) -> Handed {
     let mut places = Places::new(call.function.places());
     let lent: Vec<_> = rooms.iter_mut().map(Room::lend).collect();
     let row = places.lend();
@@ -57,32 +120,28 @@ fn run(library: &impl Library, call: &Call, wanted: &Left, rooms: &mut [Room]) -
     // this function knows and that stays where it is until after the call.
     let returned = unsafe { library.call(call.function, &call.numbers, &lent, &row) };
     let standing = rooms.iter().map(Room::stands).chain([places.stand()]);
-    let trespassed: Vec<usize> = standing
+    let trespassed = standing
         .enumerate()
         .filter_map(|(number, stands)| (!stands).then_some(number))
         .collect();
-    let places = places.numbers();
-    let bytes = rooms.iter().map(Room::bytes);
-    if (returned, &places, &trespassed) == (wanted.returned, &wanted.places, &wanted.trespassed)
-        && bytes.clone().eq(&wanted.lent)
-    {
-        return Ok(());
-    }
-    Err(Left {
+    Handed {
         returned,
-        places,
+        places: places.numbers(),
         trespassed,
-        lent: bytes.map(<[u8]>::to_vec).collect(),
-    })
+    }
 }
 
 impl fmt::Display for Difference {
     fn fmt(&self, f: &mut fmt::Formatter<'_>) -> fmt::Result {
         writeln!(f, "{}", self.call)?;
         writeln!(f, "lent {}", self.way)?;
-        writeln!(f, "reference:")?;
+        if let Sides::OneCallAndSeries(steps) = &self.sides {
+            writeln!(f, "a series of {steps:X?} blocks")?;
+        }
+        let [wanted, got] = self.sides.names();
+        writeln!(f, "{wanted}:")?;
         self.wanted.show(&self.call, f)?;
-        writeln!(f, "library:")?;
+        writeln!(f, "{got}:")?;
         self.got.show(&self.call, f)?;
         for (number, (wanted, got)) in self.wanted.lent.iter().zip(&self.got.lent).enumerate() {
             if let Some(at) = wanted.iter().zip(got).position(|(a, b)| a != b) {

@@ -1,5 +1,6 @@
 //! Holds a library against the reference: both get the same calls, and what they
 //! hand back and leave, every lent byte and the bytes around them, must be equal.
+//! Series of scrubs are held against the library's own one call and listing.
 
 pub mod call;
 mod command;
@@ -15,7 +16,9 @@ mod pages;
 pub mod report;
 pub mod runs;
 mod scene;
+pub mod scrubs;
 mod segment;
+mod series;
 pub mod stripes;
 pub mod told;
 pub mod trial;

@@ -44,6 +44,29 @@ impl Library for Archive {
             (Function::Fill, &[p, b, e, w, n, ato], &[segment], []) => unsafe {
                 c::lamptassel_fill(p, b, e, w, n, ato, segment.pointer, segment.length)
             },
+            (
+                Function::Scrub,
+                &[p, b, e, w, n, ato, place, blocks],
+                &[segment],
+                &[next, judged, faults, first_fault],
+            ) => unsafe {
+                c::lamptassel_scrub(
+                    p,
+                    b,
+                    e,
+                    w,
+                    n,
+                    ato,
+                    segment.pointer,
+                    segment.length,
+                    place,
+                    blocks,
+                    next,
+                    judged,
+                    faults,
+                    first_fault,
+                )
+            },
             (Function::Parity, &[p, b, e, w, n, ato, k], &[members, out], []) => unsafe {
                 c::lamptassel_parity(
                     p,

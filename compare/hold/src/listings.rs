@@ -5,8 +5,8 @@ use reference::{Description, listing};
 use crate::call::{CUTS, Call, Function};
 use crate::numbers::Numbers;
 use crate::segment::{
-    BLOCK_LENGTHS, Intervals, SHAPES, Tags, any_good, blocks, each_bad, each_mark_missing,
-    just_above, stretch,
+    BLOCK_LENGTHS, Intervals, SHAPES, SPOILED, any_good, described, each_bad, each_mark_missing,
+    just_above, right, spoil_blocks, stretch,
 };
 use crate::trial::{Held, Put};
 
@@ -52,26 +52,6 @@ pub fn large(put: Put<'_>) -> Held {
     every_great_room(&mut numbers, put)
 }
 
-fn described(p: u64, b: u64, e: u64, w: u64, n: u64) -> Description {
-    Description {
-        p,
-        b,
-        e,
-        w,
-        n,
-        ato: 0,
-    }
-}
-
-/// A segment in which every interval is right.
-fn right(desc: &Description, numbers: &mut Numbers) -> Vec<u8> {
-    let tags = Tags {
-        application: numbers.number() as u16 >> 1,
-        first: desc.w as u32,
-    };
-    blocks(desc, desc.n, tags, numbers)
-}
-
 /// A record's bytes with the length given.
 fn record(length: usize, version: u8, desc: &Description, segment: &[u8]) -> Vec<u8> {
     let mut out = Vec::with_capacity(4 + HEAD + segment.len());
@@ -90,6 +70,14 @@ fn whole(desc: &Description, segment: &[u8]) -> Vec<u8> {
 
 fn list(input: &[u8], room: usize) -> Call {
     Call::new(Function::List, &[], [input, &vec![0xC3; room]])
+}
+
+/// The listing of a segment, if a record can hold it, with more room than it needs.
+pub fn list_segment(desc: &Description, segment: &[u8]) -> Option<Call> {
+    let fits = desc.n <= u16::MAX.into() && HEAD + segment.len() <= LIMIT;
+    // The first line and the last, and a line for each interval.
+    let room = 128 + 64 * (segment.len() / Intervals::of(desc).step);
+    fits.then(|| list(&whole(desc, segment), room))
 }
 
 /// The call with some room to spare.
@@ -295,26 +283,6 @@ fn every_block_length(p: u64, e: u64, numbers: &mut Numbers, put: Put<'_>) -> He
     Ok(())
 }
 
-/// What may be the matter with an interval's fields.
-#[derive(Clone, Copy)]
-enum Spoiled {
-    Guard,
-    Reference,
-    Escape,
-}
-
-const SPOILED: [Spoiled; 3] = [Spoiled::Guard, Spoiled::Reference, Spoiled::Escape];
-
-impl Spoiled {
-    fn put(self, fields: &mut [u8]) {
-        match self {
-            Spoiled::Guard => fields[1] ^= 1,
-            Spoiled::Reference => fields[7] ^= 1,
-            Spoiled::Escape => fields[2..].fill(0xFF),
-        }
-    }
-}
-
 /// Rooms about the powers of two, and about the end, of the longest listing.
 fn every_great_room(numbers: &mut Numbers, put: Put<'_>) -> Held {
     let desc = described(2, 8, 3, u64::MAX >> 2, 909);
@@ -409,7 +377,7 @@ pub fn any(numbers: &mut Numbers) -> Call {
     let desc = any_good(numbers, 3_000);
     let mut segment = right(&desc, numbers);
     for _ in 0..numbers.pick(&[0, 0, 1, 2, 5]) {
-        spoil(&desc, &mut segment, numbers);
+        spoil_blocks(&desc, &mut segment, numbers);
     }
     let mut input = whole(&desc, &segment);
     match numbers.below(16) {
@@ -437,16 +405,4 @@ pub fn any(numbers: &mut Numbers) -> Call {
         _ => needed + numbers.place(20),
     };
     list(&input, room)
-}
-
-/// A wrong bit anywhere, or marks of an escape in some interval.
-fn spoil(desc: &Description, segment: &mut [u8], numbers: &mut Numbers) {
-    let sizes = Intervals::of(desc);
-    if desc.p == 0 || numbers.once_in(2) {
-        segment[numbers.place(segment.len())] ^= 1 << numbers.below(8);
-        return;
-    }
-    let interval = numbers.place(segment.len() / sizes.step);
-    let (from, to) = numbers.pick(&[(2, 4), (4, 8), (2, 8)]);
-    segment[interval * sizes.step + sizes.data..][from..to].fill(0xFF);
 }

@@ -9,6 +9,7 @@ use std::fmt::Display;
 use std::io::{self, ErrorKind, Write};
 use std::process::ExitCode;
 
+use hold::compare::Sides;
 use hold::options::{Options, USAGE};
 use hold::runs::{self, Parted};
 use linked::Archive;
@@ -46,10 +47,12 @@ fn hold(options: &Options, out: &mut impl Write) -> io::Result<bool> {
                 number,
                 difference,
             } = parted;
-            writeln!(
-                out,
-                "{run}, input {number} from 0: archive and reference part"
-            )?;
+            let sides = match difference.sides {
+                Sides::ReferenceAndLibrary => "archive and reference",
+                Sides::OneCallAndSeries(_) => "the archive's series and its one call",
+                Sides::ListingAndOneCall => "the archive's one call and its listing",
+            };
+            writeln!(out, "{run}, input {number} from 0: {sides} part")?;
             writeln!(out, "{difference}")?;
             return Ok(false);
         }

@@ -3,8 +3,9 @@
 pub const USAGE: &str = "\
 usage: hold [--seed NUMBER] [--count NUMBER]
 
---seed NUMBER   where the random calls begin (1)
---count NUMBER  how many random calls there are beside the systematic ones (500000)";
+--seed NUMBER   where the random calls and the series of scrubs begin (1)
+--count NUMBER  how many random calls there are beside the systematic ones (500000);
+                there is a series for every twenty of them";
 
 #[derive(Debug, PartialEq, Eq)]
 pub struct Options {

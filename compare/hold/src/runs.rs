@@ -17,6 +17,7 @@ use crate::watch;
 pub enum Run {
     Part(&'static str, Part),
     Random { seed: u64, count: u64 },
+    Series { seed: u64, count: u64 },
 }
 
 impl fmt::Display for Run {
@@ -24,11 +25,13 @@ impl fmt::Display for Run {
         match self {
             Run::Part(name, _) => write!(f, "{name}"),
             Run::Random { seed, .. } => write!(f, "seed {seed}"),
+            Run::Series { seed, .. } => write!(f, "series of seed {seed}"),
         }
     }
 }
 
-/// Where library and reference part: on which call of which run, counted from 0.
+/// Where library and reference part: on which call of which run, counted from 0. Where
+/// the library parts from itself, it is the first call of the series.
 #[derive(Debug)]
 pub struct Parted {
     pub run: Run,
@@ -36,13 +39,14 @@ pub struct Parted {
     pub difference: Box<Difference>,
 }
 
-/// Every part of the systematic calls, and random ones.
+/// Every part of the systematic calls, so many random ones, and a series for every
+/// twenty of those.
 pub fn all(seed: u64, count: u64) -> Vec<Run> {
     let parts = PARTS.map(|(name, part)| Run::Part(name, part));
-    parts
-        .into_iter()
-        .chain([Run::Random { seed, count }])
-        .collect()
+    let random = Run::Random { seed, count };
+    let count = count / 20;
+    let series = Run::Series { seed, count };
+    parts.into_iter().chain([random, series]).collect()
 }
 
 /// Runs all of these, on as many threads as the machine has: what was reached in all,
@@ -50,7 +54,7 @@ pub fn all(seed: u64, count: u64) -> Vec<Run> {
 /// those before it have been, and end.
 ///
 /// # Errors
-/// If library and reference part.
+/// If library and reference part, or the library from itself.
 pub fn side_by_side(library: &(impl Library + Sync), runs: &[Run]) -> Result<Tally, Parted> {
     let next = AtomicUsize::new(0);
     let results: Vec<OnceLock<_>> = runs.iter().map(|_| OnceLock::new()).collect();
@@ -79,6 +83,7 @@ fn one(library: &impl Library, run: Run) -> Result<Tally, Parted> {
     let held = match run {
         Run::Part(_, part) => part(&mut |call| trial.put(call)),
         Run::Random { seed, count } => trial.random(seed, count),
+        Run::Series { seed, count } => trial.series(seed, count),
     };
     match held {
         Ok(()) => Ok(trial.tally),

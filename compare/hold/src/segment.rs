@@ -24,6 +24,11 @@ pub const BLOCK_LENGTHS: [u64; 23] = [
     2_048, 2_056, 4_088, 4_096,
 ];
 
+/// Counts about the numbers of bits that a number may be cut to by mistake.
+pub const COUNTS: [u64; 11] = [
+    255, 256, 257, 1_023, 1_024, 1_025, 32_767, 32_768, 32_769, 65_535, 65_536,
+];
+
 /// The marks of an escape with each bit of theirs in turn missing, as they stand behind
 /// a guard.
 pub fn each_mark_missing() -> impl Iterator<Item = [u8; 6]> {
@@ -90,6 +95,59 @@ pub fn blocks(desc: &Description, count: u64, tags: Tags, numbers: &mut Numbers)
         }
     }
     out
+}
+
+/// A description with ATO 0.
+pub fn described(p: u64, b: u64, e: u64, w: u64, n: u64) -> Description {
+    Description {
+        p,
+        b,
+        e,
+        w,
+        n,
+        ato: 0,
+    }
+}
+
+/// A segment in which every interval is right as a listing and a scrub judge it.
+pub fn right(desc: &Description, numbers: &mut Numbers) -> Vec<u8> {
+    let tags = Tags {
+        application: numbers.number() as u16 >> 1,
+        first: desc.w as u32,
+    };
+    blocks(desc, desc.n, tags, numbers)
+}
+
+/// What may be the matter with an interval's fields.
+#[derive(Clone, Copy)]
+pub enum Spoiled {
+    Guard,
+    Reference,
+    Escape,
+}
+
+pub const SPOILED: [Spoiled; 3] = [Spoiled::Guard, Spoiled::Reference, Spoiled::Escape];
+
+impl Spoiled {
+    pub fn put(self, fields: &mut [u8]) {
+        match self {
+            Spoiled::Guard => fields[1] ^= 1,
+            Spoiled::Reference => fields[7] ^= 1,
+            Spoiled::Escape => fields[2..].fill(0xFF),
+        }
+    }
+}
+
+/// A wrong bit anywhere, or marks of an escape in some interval.
+pub fn spoil_blocks(desc: &Description, segment: &mut [u8], numbers: &mut Numbers) {
+    let sizes = Intervals::of(desc);
+    if desc.p == 0 || numbers.once_in(2) {
+        segment[numbers.place(segment.len())] ^= 1 << numbers.below(8);
+        return;
+    }
+    let interval = numbers.place(segment.len() / sizes.step);
+    let (from, to) = numbers.pick(&[(2, 4), (4, 8), (2, 8)]);
+    segment[interval * sizes.step + sizes.data..][from..to].fill(0xFF);
 }
 
 /// Every bad description that is one number away from a good one, and the good

@@ -52,7 +52,7 @@ pub type Numbers = (u64, Vec<u64>, Option<u64>);
 /// If they are not those of the function.
 pub fn call_reference(function: Function, numbers: &[u64], lent: &mut [&mut [u8]]) -> Numbers {
     match function {
-        Function::Execute | Function::Fill => on_segment(numbers, lent),
+        Function::Execute | Function::Fill | Function::Scrub => on_segment(numbers, lent),
         Function::Parity | Function::Rebuild | Function::Correct => on_stripe(numbers, lent),
         _ => on_bytes(function, numbers, lent),
     }
@@ -72,14 +72,29 @@ fn description(numbers: &[u64]) -> (Description, &[u64]) {
 }
 
 fn on_segment(numbers: &[u64], lent: &mut [&mut [u8]]) -> Numbers {
-    let (desc, _) = description(numbers);
-    match lent {
-        [segment, command, buffer] => {
+    let (desc, rest) = description(numbers);
+    match (rest, lent) {
+        (&[], [segment, command, buffer]) => {
             let outcome = reference::execute(&desc, segment, command, buffer);
             let places = vec![outcome.address, outcome.place];
             (outcome.answer, places, Some(outcome.answer))
         }
-        [segment] => answered(reference::fill(&desc, segment)),
+        (&[], [segment]) => answered(reference::fill(&desc, segment)),
+        (&[place, blocks], [segment]) => {
+            let scrubbed = reference::scrub(&desc, segment, place, blocks);
+            let reference::Scrubbed {
+                answer,
+                next,
+                judged,
+                faults,
+                first_fault,
+            } = scrubbed;
+            (
+                answer,
+                vec![next, judged, faults, first_fault],
+                Some(answer),
+            )
+        }
         _ => panic!("{OTHERS}"),
     }
 }

@@ -1,12 +1,12 @@
-//! A run of calls: the systematic ones, part by part, and as many random calls as
-//! wanted.
+//! A run of calls: the systematic ones, part by part, and as many random calls and
+//! series as wanted.
 
-use crate::call::{Call, Library};
+use crate::call::{Call, Function, Library};
 use crate::compare::{Difference, compare};
 use crate::fence::Rooms;
 use crate::numbers::Numbers;
 use crate::report::Tally;
-use crate::{executes, formats, guards, listings, stripes, watch};
+use crate::{executes, formats, guards, listings, scrubs, series, stripes, watch};
 
 /// Whether library and reference agreed.
 pub type Held = Result<(), Box<Difference>>;
@@ -20,12 +20,14 @@ pub type Part = fn(Put<'_>) -> Held;
 /// Every limit, length, code, fault, difference, escape and lost part by itself, what
 /// is refused in pairs, and great numbers. No part needs another, so that they can run
 /// side by side: the longest come first.
-pub const PARTS: [(&str, Part); 16] = [
+pub const PARTS: [(&str, Part); 20] = [
     ("executes::large::most", executes::large::most),
     ("executes::large::each", executes::large::each),
     ("stripes::most", stripes::most),
     ("guards::large", guards::large),
     ("executes::each", executes::each),
+    ("scrubs::most", scrubs::most),
+    ("scrubs::large", scrubs::large),
     ("formats::large", formats::large),
     ("listings::large", listings::large),
     ("stripes::large", stripes::large),
@@ -33,6 +35,8 @@ pub const PARTS: [(&str, Part); 16] = [
     ("executes::differences::each", executes::differences::each),
     ("listings::each", listings::each),
     ("listings::pairs", listings::pairs),
+    ("scrubs::each", scrubs::each),
+    ("scrubs::pairs", scrubs::pairs),
     ("formats::each", formats::each),
     ("guards::each", guards::each),
     ("stripes::each", stripes::each),
@@ -73,14 +77,28 @@ impl<'a, L: Library> Trial<'a, L> {
         }
         Ok(())
     }
+
+    /// Series of scrubs from a seed, held against the library itself.
+    pub fn series(&mut self, seed: u64, count: u64) -> Held {
+        let mut numbers = Numbers::new(seed);
+        for _ in 0..count {
+            watch::input(self.tally.inputs());
+            let taken = series::any(self.library, &mut self.rooms, &mut numbers)?;
+            for (function, times) in [Function::Scrub, Function::List].into_iter().zip(taken) {
+                (0..times).for_each(|_| self.tally.note(function, None));
+            }
+        }
+        Ok(())
+    }
 }
 
 fn any(numbers: &mut Numbers) -> Call {
-    match numbers.below(20) {
+    match numbers.below(22) {
         0 | 1 => guards::any(numbers),
         2 => formats::any(numbers),
         3..=5 => stripes::any(numbers),
         6..=8 => listings::any(numbers),
+        9 | 10 => scrubs::any(numbers),
         _ => executes::any(numbers),
     }
 }

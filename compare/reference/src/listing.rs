@@ -4,8 +4,7 @@ use std::fmt::Write;
 
 use crate::answer::{DESCRIPTION_BAD, RECORD_BAD, SEGMENT_LENGTH_WRONG};
 use crate::command::{eight, two};
-use crate::guard::guard;
-use crate::segment::{Description, Fields, Shape};
+use crate::segment::{Description, Fault, Fields, Shape};
 
 /// The bytes of a record before its segment.
 const HEAD: usize = 15;
@@ -53,21 +52,20 @@ fn lines(desc: &Description, shape: &Shape, segment: &[u8]) -> String {
         for (block, address) in segment.chunks_exact(shape.stored).zip(desc.w..) {
             let escaped = shape.escaped(block);
             for (inside, interval) in block.chunks_exact(shape.step).enumerate() {
-                let (data, fields) = interval.split_at(shape.data);
-                let fields = Fields::of(fields);
                 let state = if escaped {
                     skipped += 1;
                     "skipped"
-                } else if fields.guard != guard(data) {
-                    faults += 1;
-                    "guard"
-                } else if shape.p == 1 && fields.reference != address as u32 {
-                    faults += 1;
-                    "ref"
                 } else {
-                    "ok"
+                    let fault = shape.fault(interval, address);
+                    faults += u64::from(fault.is_some());
+                    match fault {
+                        Some(Fault::Guard) => "guard",
+                        Some(Fault::Reference) => "ref",
+                        None => "ok",
+                    }
                 };
                 intervals += 1;
+                let fields = Fields::of(&interval[shape.data..]);
                 line(
                     &mut text,
                     format_args!(

@@ -1,6 +1,7 @@
 //! A segment: its description, its sizes, its intervals, and filling it fresh.
 
 use crate::answer::{DESCRIPTION_BAD, GOOD, SEGMENT_LENGTH_WRONG};
+use crate::guard::guard;
 
 /// Bytes of the guard, the application tag and the reference tag together.
 pub(crate) const FIELD_BYTES: usize = 8;
@@ -100,6 +101,29 @@ impl Shape {
         }
         false
     }
+
+    /// What a listing and a scrub find wrong with a stored interval of type 1 to 3
+    /// whose block has this address and no escape: the guard, then in type 1 alone
+    /// the reference tag, for which the address's low four bytes are expected.
+    #[inline]
+    pub fn fault(&self, interval: &[u8], address: u64) -> Option<Fault> {
+        let (data, fields) = interval.split_at(self.data);
+        let fields = Fields::of(fields);
+        if fields.guard != guard(data) {
+            return Some(Fault::Guard);
+        }
+        if self.p == 1 && fields.reference != address as u32 {
+            return Some(Fault::Reference);
+        }
+        None
+    }
+}
+
+/// What is wrong with an interval.
+#[derive(Clone, Copy, Debug, PartialEq, Eq)]
+pub(crate) enum Fault {
+    Guard,
+    Reference,
 }
 
 /// The three fields after an interval's data.

@@ -7,7 +7,7 @@ use crate::command::{Command, OPERATIONS, Operation, SIZES};
 use crate::executes::each::middle;
 use crate::numbers::Numbers;
 use crate::scene::{Scene, buffer_length};
-use crate::segment::{BLOCK_LENGTHS, Intervals, SHAPES, just_above, segment_length};
+use crate::segment::{BLOCK_LENGTHS, COUNTS, Intervals, SHAPES, just_above, segment_length};
 use crate::trial::{Held, Put};
 
 /// All of them but `most`.
@@ -20,11 +20,6 @@ pub fn each(put: Put<'_>) -> Held {
     every_offset(put)?;
     more_than_24_bits(put)
 }
-
-/// About the numbers of bits that a number may be cut to by mistake.
-const COUNTS: [u64; 11] = [
-    255, 256, 257, 1_023, 1_024, 1_025, 32_767, 32_768, 32_769, 65_535, 65_536,
-];
 
 /// A size that a type's commands may have, and a code with which it moves fields if
 /// it may.

@@ -5,7 +5,7 @@
 use hold::call::{Function, Lent};
 use hold::compare::Difference;
 use hold::trial::{Part, Trial};
-use hold::{executes, formats, guards, listings, stripes};
+use hold::{executes, formats, guards, listings, scrubs, stripes};
 
 use crate::library::{Passing, Planted};
 
@@ -17,6 +17,7 @@ pub fn systematic(function: Function) -> Part {
     match function {
         Function::Execute => executes::each,
         Function::Format | Function::Fill => formats::each,
+        Function::Scrub => scrubs::each,
         Function::Parity | Function::Rebuild | Function::Correct => stripes::each,
         Function::List => listings::each,
         _ => guards::each,
@@ -366,13 +367,16 @@ fn an_offset_cut_to_27_bits() {
 
 #[test]
 fn a_segment_length_cut() {
-    for (part, bits) in [
-        (executes::large::every_count as Part, 16),
-        (executes::large::more_than_24_bits, 24),
-        (executes::large::most, 27),
+    for (part, function, bits) in [
+        (executes::large::every_count as Part, Function::Execute, 16),
+        (executes::large::more_than_24_bits, Function::Execute, 24),
+        (executes::large::most, Function::Execute, 27),
+        (scrubs::every_count, Function::Scrub, 16),
+        (scrubs::more_than_24_bits, Function::Scrub, 24),
+        (scrubs::most, Function::Scrub, 28),
     ] {
         // A right segment is refused where N × S is cut.
-        found_by(part, Function::Execute, |call| match call.honest() {
+        found_by(part, function, |call| match call.honest() {
             0 if call.lent[0].length >> bits > 0 => 2,
             answer => answer,
         });
@@ -381,6 +385,7 @@ fn a_segment_length_cut() {
         for (part, function) in [
             (executes::large::every_cut as Part, Function::Execute),
             (formats::large, Function::Fill),
+            (scrubs::every_cut, Function::Scrub),
             (stripes::large, Function::Parity),
             (stripes::large, Function::Rebuild),
             (stripes::large, Function::Correct),
@@ -496,11 +501,12 @@ fn taken_when_cut(call: &Passing<'_>, slice: usize, bits: u32) -> u64 {
 
 #[test]
 fn a_length_right_when_it_is_cut() {
-    let slices: [(Part, Function, usize); 14] = [
+    let slices: [(Part, Function, usize); 15] = [
         (executes::large::every_cut, Function::Execute, 0),
         (executes::large::every_cut, Function::Execute, 1),
         (executes::large::every_cut, Function::Execute, 2),
         (formats::large, Function::Fill, 0),
+        (scrubs::every_cut, Function::Scrub, 0),
         (stripes::large, Function::Parity, 0),
         (stripes::large, Function::Parity, 1),
         (stripes::large, Function::Rebuild, 0),

@@ -7,3 +7,4 @@ mod library;
 mod outside;
 mod planted;
 mod reached;
+mod scrubs;

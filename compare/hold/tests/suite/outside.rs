@@ -16,9 +16,10 @@ use crate::library::{Passing, Planted};
 const TOUCH: &str = "HOLD_TOUCH";
 
 /// Each function with how many slices it is lent.
-const LENT: [(Function, usize); 9] = [
+const LENT: [(Function, usize); 10] = [
     (Function::Execute, 3),
     (Function::Fill, 1),
+    (Function::Scrub, 1),
     (Function::Parity, 2),
     (Function::Rebuild, 2),
     (Function::Correct, 3),

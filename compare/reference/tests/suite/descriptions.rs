@@ -24,7 +24,7 @@ fn good() -> Vec<Description> {
 }
 
 /// Descriptions that are just outside, one number each.
-fn bad() -> Vec<Description> {
+pub fn bad() -> Vec<Description> {
     let mut bad = vec![
         describe(1, 8, 0, TOP, 1, 0),
         describe(1, 8, 0, TOP - 2, 3, 0),

@@ -1,24 +1,8 @@
 //! The listing program.
 
-use reference::{Description, listing};
+use reference::Description;
 
 use crate::support::*;
-
-/// A record of version 1 with the length it should have.
-fn record(desc: &Description, segment: &[u8]) -> Vec<u8> {
-    let mut body = vec![1, desc.p as u8, desc.e as u8];
-    body.extend((desc.b as u16).to_be_bytes());
-    body.extend(desc.w.to_be_bytes());
-    body.extend((desc.n as u16).to_be_bytes());
-    body.extend(segment);
-    let mut out = (body.len() as u32).to_be_bytes().to_vec();
-    out.extend(body);
-    out
-}
-
-fn text(input: &[u8]) -> String {
-    String::from_utf8(listing(input)).unwrap()
-}
 
 #[test]
 fn the_example() {

@@ -9,5 +9,6 @@ mod formats;
 mod guards;
 mod listings;
 mod model;
+mod scrubs;
 mod stripes;
 mod support;

@@ -1,6 +1,6 @@
 //! Segments and commands for the tests.
 
-use reference::{Description, Outcome, execute, guard};
+use reference::{Description, Outcome, execute, guard, listing};
 
 pub const READ: usize = 0;
 pub const WRITE: usize = 1;
@@ -243,6 +243,23 @@ pub fn build(desc: &Description, tags: impl Fn(u64, u64) -> (u16, u32)) -> Vec<u
         }
     }
     out
+}
+
+/// A record of version 1 with the length it should have.
+pub fn record(desc: &Description, segment: &[u8]) -> Vec<u8> {
+    let mut body = vec![1, desc.p as u8, desc.e as u8];
+    body.extend((desc.b as u16).to_be_bytes());
+    body.extend(desc.w.to_be_bytes());
+    body.extend((desc.n as u16).to_be_bytes());
+    body.extend(segment);
+    let mut out = (body.len() as u32).to_be_bytes().to_vec();
+    out.extend(body);
+    out
+}
+
+/// What the listing program prints for this standard input.
+pub fn text(input: &[u8]) -> String {
+    String::from_utf8(listing(input)).unwrap()
 }
 
 /// A small generator of numbers that look random, the same on every run.
