@@ -243,9 +243,12 @@ scrubbing =
     ∷ scrubOf describedM (first ++ second ++ second) 0 3 (handed 0 3 3 2 8)
     -- W 0: the first block has a fault, and its address is 0
     ∷ scrubOf (described 1 8 0 0 2 0) (first ++ second) 0 2 (handed 0 2 2 2 0)
-    -- type 2, B 8, e 1: both guards of the first block are wrong, and it counts once; the reference tag is not judged; the second block has
-    -- a wrong guard beside the escape of its other interval
+    -- type 2, B 8, e 1: both guards of the first block are wrong, and it counts once; the second block has a wrong guard beside the escape
+    -- of its other interval
     ∷ scrubOf (described 2 8 1 5 2 1) (bytes 24 0x00000001_8BB6_0000_FFFFFFFF_00000002_9CD8_0000_00000000 ++ bytes 24 0x00000001_8BB6_0000_00000000_00000002_9CD8_FFFF_00000000) 0 2 (handed 0 2 2 1 5)
+    -- in type 2 any tags, in type 1 any application tag, with ATO 1 too: only what is known is judged
+    ∷ scrubOf (described 2 8 1 5 1 1) (bytes 24 0x00000001_8BB7_1234_FFFFFFFF_00000002_9CD9_0000_00000007) 0 1 (handed 0 1 1 0 0)
+    ∷ scrubOf (described 1 8 0 7 1 1) (bytes 16 0x0000000000000001_8BB7_1234_00000007) 0 1 (handed 0 1 1 0 0)
     -- type 3: FFFFh alone is not the escape
     ∷ scrubOf (described 3 8 0 5 2 0) (bytes 16 0x0000000000000001_8BB6_FFFF_FFFFFFFF ++ bytes 16 0x0000000000000001_8BB6_FFFF_FFFFFFFE) 0 2 (handed 0 2 2 1 6)
     -- type 0 has no faults, and its blocks count as judged

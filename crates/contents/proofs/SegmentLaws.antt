@@ -20,13 +20,14 @@ use Rattle.command.specs.Sixteen.{sixteen}
 use Rattle.sides.specs.declared.Side.the-variants.{Stored}
 use Rattle.segment.proofs.Places.{span-all}
 use Rattle.rules.specs.Rules.{rulesOf, startOf}
+use Rattle.rules.specs.ReadAll.{readAll}
 use Rattle.rules.proofs.Laws.{side-run}
 use Rattle.sheet.specs.declared.Sheet.{Sheet}
 use Rattle.sheet.specs.Sheet.{Printed, Room}
 use Rattle.body.specs.Body.{blockLines}
 use Rattle.sheet.proofs.SheetLaws.{sheet, printed-none, printed-as, room-next, room-less, first-room}
 use Rattle.body.proofs.BlockLaws.{blocks-length}
-use Rattle.contents.specs.Contents.{readAll, linesOf}
+use Rattle.contents.specs.Contents.{linesOf}
 
 -- ---- the lines of a segment
 module _ (d : Description) (s : List ℕ) (g : Segment d) (long : lengthOf d ≡ length s) where

@@ -26,7 +26,8 @@ use Rattle.sheet.specs.Sheet.{faulty, skips, countOf, linesText}
 use Rattle.paragraph.specs.Paragraph.{intervalLines, linesIn}
 use Rattle.body.specs.Body.{blockLines}
 use Rattle.closing.specs.Closing.{numbersText}
-use Rattle.contents.specs.Contents.{readAll, linesOf}
+use Rattle.rules.specs.ReadAll.{readAll}
+use Rattle.contents.specs.Contents.{linesOf}
 use Rattle.page.specs.Page.{headerText, totalText, listedText}
 use Rattle.sheet.proofs.SheetLaws.{count-append}
 use Rattle.body.proofs.BlockLaws.{blocks-length}

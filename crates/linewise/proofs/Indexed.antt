@@ -34,7 +34,8 @@ use Rattle.lines.specs.Lines.{worded, stateOf, lineOf}
 use Rattle.sheet.specs.Sheet.{faulty}
 use Rattle.paragraph.specs.Paragraph.{intervalLines, linesIn}
 use Rattle.body.specs.Body.{blockLines}
-use Rattle.contents.specs.Contents.{readAll, linesOf}
+use Rattle.rules.specs.ReadAll.{readAll}
+use Rattle.contents.specs.Contents.{linesOf}
 use Rattle.linewise.specs.Indexed.{fieldAt, escapedAt, stateAt, lineAt}
 use Rattle.paragraph.proofs.ParagraphLaws.{block-length}
 use Rattle.contents.proofs.SegmentLaws.{lines-are}

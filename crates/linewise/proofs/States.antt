@@ -25,7 +25,7 @@ use Rattle.rules.specs.Rules.{columnsOf, applicationKnown, referenceKnown, firs
 use Rattle.lines.specs.declared.State.{State}
 use Rattle.lines.specs.declared.State.the-variants.{Skipped, Guard, Ref, Ok}
 use Rattle.lines.specs.Lines.{worded, stateOf}
-use Rattle.contents.specs.Contents.{readAll}
+use Rattle.rules.specs.ReadAll.{readAll}
 
 abbrev inWords : Bool → Bool → Bool → State
 inWords skipped g r = cond skipped Skipped (cond g Guard (cond r Ref Ok))

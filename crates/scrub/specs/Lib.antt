@@ -1,1 +1,2 @@
 pub mod Scrub
+pub mod Onward

@@ -11,26 +11,18 @@ use Rattle.answer.specs.declared.Answer.{Answer}
 use Rattle.segment.specs.declared.Description.{Description}
 use Rattle.segment.specs.Rules.{segmentRules}
 use Rattle.segment.specs.Places.{placeRule, blockAt}
-use Rattle.command.specs.declared.Command.{Command}
-use Rattle.command.specs.declared.Operation.the-variants.{Read}
-use Rattle.command.specs.Sixteen.{sixteen}
 use Rattle.sides.specs.declared.Side.the-variants.{Stored}
-use Rattle.rules.specs.Rules.{rulesOf, startOf}
+use Rattle.rules.specs.Rules.{rulesOf}
+use Rattle.rules.specs.Intervals.{placeAt}
+use Rattle.rules.specs.ReadAll.{readAll}
 use Rattle.judge.specs.Judge.{judgeBlock}
-use Rattle.scrub.specs.declared.Found.{Found}
 use Rattle.scrub.specs.declared.Scrubbed.{Scrubbed}
 
--- ---- "judges stored intervals as the listing program does": by what code 001 of a 16-byte READ checks, here of the one block at a place
-abbrev pub readBlock : Description → ℕ → Command
-readBlock d at = sixteen Read (d .first + at) 1
-
--- whether the block at a place, whose bytes s begins with, has a fault: one of its intervals is wrong. "Type 0 checks nothing."
-unfoldable pub faultyBlock : Description → ℕ → List ℕ → Bool
-faultyBlock d at s =
-    not (eqb (d .kind) 0) && not (isGood (judgeBlock (rulesOf Stored d (readBlock d at)) (startOf d (readBlock d at)) s))
-
-abbrev pub faultyAt : Description → List ℕ → ℕ → Bool
-faultyAt d s at = faultyBlock d at (blockAt d s at)
+-- ---- "judges stored intervals as the listing program does": whether the block at a place has a fault, one of its intervals being wrong. Type 0
+-- has none, and no byte of it is looked at (`blockAt` is of types 1 to 3)
+unfoldable pub faultyAt : Description → List ℕ → ℕ → Bool
+faultyAt d s at =
+    not (eqb (d .kind) 0) && not (isGood (judgeBlock (rulesOf Stored d (readAll d)) (placeAt d (readAll d) at 0) (blockAt d s at)))
 
 -- ---- of k blocks from a place on: "how many had a fault"
 unfoldable pub faultsFrom : Description → List ℕ → ℕ → ℕ → ℕ
@@ -77,9 +69,3 @@ scrubbed d s place blocks =
     cond (isGood (scrubRules d (length s) place))
     (after (scrubRules d (length s) place) d s place (coveredOf d place blocks))
     (refused (scrubRules d (length s) place) place)
-
--- ---- what the functions of one block hand back
--- what has been found, with the block of an address that has a fault or has none
-abbrev pub withBlock : Bool → ℕ → Found → Found
-withBlock faulty address f =
-    cond faulty (record { faults = f .faults + 1; first = cond (eqb (f .faults) 0) address (f .first) }) f

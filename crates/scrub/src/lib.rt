@@ -1,20 +1,19 @@
 // Scrubbing: a few blocks of a segment from a place on, how many of them have a fault, and where the first is.
 ghost use mathlib.Core.Path.{_≡_};
-ghost use Prim.Native.Nat.{_+_, _<_, _≤_};
+ghost use Prim.Native.Nat.{_+_, _≤_, _<_, _^_};
 ghost use lib.ListN.{length};
 ghost use Rattle.guard.specs.Table.{Right};
-ghost use Rattle.segment.specs.Segment.{Segment, storedOf, lengthOf};
-ghost use Rattle.sides.specs.declared.Side.the-variants.{Stored};
-ghost use Rattle.rules.specs.Rules.{rulesOf};
-ghost use Rattle.scrub.specs.Scrub.{readBlock, faultyBlock, withBlock, coveredOf, Stepped, scrubRules, scrubbed};
+ghost use Rattle.segment.specs.Segment.{Segment, lengthOf};
+ghost use Rattle.scrub.specs.Scrub.{coveredOf, Stepped, scrubRules, refused, scrubbed};
+ghost use Rattle.scrub.specs.Onward.{Within, judgedFrom, RightBefore, withFault, past};
 use answer::Answer;
-use command::Operation;
-use interval::Rules;
 use segment::Description;
 use sides::Side;
 
-// The blocks with a fault so far, and the address of the first of them; 0 where there is none.
+// Where a step stands: the blocks judged so far, those of them that have a fault, and the address of the first of these; 0 where
+// none has.
 pub struct Found {
+    pub judged: u64,
     pub faults: u64,
     pub first: u64,
 }
@@ -29,37 +28,72 @@ pub struct Scrubbed {
     pub first: u64,
 }
 
-// Whether the block at a place, `s`, has a fault; type 0 has none.
-fn faulty_block(t: &[u16; 256], r: Rules, d: Description, at: u64, s: &[u8]) -> bool
+// The first wrong interval of `count` blocks from a place on.
+fn judge_from(t: &[u16; 256], d: Description, s: &[u8], at: u64, count: u64) -> Answer
     requires { ⌜ Right (now t) ⌝ }
-    requires { ⌜ (Segment d) × (at < d .count) × (length (now s) ≡ storedOf d) × (r ≡ rulesOf Stored d (readBlock d at)) ⌝ }
-    ensures { λ x. ⌜ x ≡ faultyBlock d at (now (s .entry)) ⌝ }
+    requires { ⌜ Within d (now s) at count ⌝ }
+    requires { ⌜ (d .kind ≡ 0 → ⊥) ⌝ }
+    ensures { λ a. ⌜ a ≡ judgedFrom d (now (s .entry)) at count ⌝ }
 {
-    if d.kind == 0 {
-        return false;
-    }
-    let p = rules::start(d, command::sixteen(Operation::Read, d.first + at, 1));
-    !answer::is_good(judge::judge_block(t, r, p, s))
+    let i = segment::offset(d, d.first + at);
+    let end = i + segment::span(d, count);
+    let c = rules::read_all(d);
+    let r = rules::rules(Side::Stored, d, c);
+    let p = rules::place_at(d, c, at);
+    judge::judge_blocks(t, r, p, count as usize, &s[i..end])
 }
 
-// What has been found with one block more, of this address.
-fn with_block(faulty: bool, address: u64, f: Found) -> Found
-    requires { ⌜ f .faults < 65536 ⌝ }
-    ensures { λ x. ⌜ x ≡ withBlock faulty address f ⌝ }
+// How many of `count` blocks from a place on are right before the first that has a fault; all of them where none has, as in type 0.
+fn right_before(t: &[u16; 256], d: Description, s: &[u8], at: u64, count: u64) -> u64
+    requires { ⌜ Right (now t) ⌝ }
+    requires { ⌜ Within d (now s) at count ⌝ }
+    ensures { λ r. ⌜ RightBefore d (now (s .entry)) at count r ⌝ }
 {
-    if !faulty {
-        return f;
+    if d.kind == 0 {
+        return count;
     }
+    let a = judge_from(t, d, s, at, count);
+    if answer::is_good(a) {
+        return count;
+    }
+    answer::address(a) - (d.first + at)
+}
+
+// One block more, which has a fault: the first such is named.
+fn with_fault(f: Found, address: u64) -> Found
+    requires { ⌜ (f .judged < 65536) × (f .faults ≤ f .judged) ⌝ }
+    ensures { λ x. ⌜ x ≡ withFault f address ⌝ }
+{
     if f.faults == 0 {
         return Found {
+            judged: f.judged + 1,
             faults: 1,
             first: address,
         };
     }
     Found {
+        judged: f.judged + 1,
         faults: f.faults + 1,
         first: f.first,
     }
+}
+
+// So many right blocks more and, if they are not the last of the step's `count`, the one with a fault behind them. `from` is the
+// address of the step's first block.
+fn past(found: Found, right: u64, count: u64, from: u64) -> Found
+    requires { ⌜ (found .judged + right ≤ count) × (found .faults ≤ found .judged) × (count ≤ 65536) × (from + count ≤ 2 ^ 63) ⌝ }
+    ensures { λ x. ⌜ x ≡ past found right count from ⌝ }
+{
+    let judged = found.judged + right;
+    let f = Found {
+        judged,
+        faults: found.faults,
+        first: found.first,
+    };
+    if judged == count {
+        return f;
+    }
+    with_fault(f, from + judged)
 }
 
 // The smaller of a number of blocks and those left from a place on.
@@ -89,28 +123,21 @@ pub fn step(
     ensures { λ r. ⌜ Stepped d (now (s .entry)) place blocks r (now (faults .exit)) (now (first .exit)) ⌝ }
 {
     let count = covered(d, place, blocks);
-    let size = segment::stored(d);
-    let r = rules::rules(
-        Side::Stored,
-        d,
-        command::sixteen(Operation::Read, d.first, 1),
-    );
+    let from = d.first + place;
     let mut found = Found {
+        judged: 0,
         faults: 0,
         first: 0,
     };
-    let mut judged: u64 = 0;
-    while judged < count {
-        let at = place + judged;
-        let i = at as usize * size;
-        let end = i + size;
-        let faulty = faulty_block(t, r, d, at, &s[i..end]);
-        found = with_block(faulty, d.first + at, found);
-        judged += 1;
+    while found.judged < count {
+        let at = place + found.judged;
+        let left = count - found.judged;
+        let right = right_before(t, d, s, at, left);
+        found = past(found, right, count, from);
     }
     *faults = found.faults;
     *first = found.first;
-    judged
+    found.judged
 }
 
 // Refusals 1, 2 and 7.
@@ -124,19 +151,26 @@ fn scrub_rules(d: Description, bytes: usize, place: u64) -> Answer
     segment::place_rule(d, place)
 }
 
+// A refused call hands back the place it was given and zeros.
+fn refused(a: Answer, place: u64) -> Scrubbed
+    ensures { λ r. ⌜ r ≡ refused a place ⌝ }
+{
+    Scrubbed {
+        answer: a,
+        next: place,
+        judged: 0,
+        faults: 0,
+        first: 0,
+    }
+}
+
 // Goes through a segment from a place on, over a number of blocks or as many as are left.
 pub fn scrub(d: Description, s: &[u8], place: u64, blocks: u64) -> Scrubbed
     ensures { λ r. ⌜ r ≡ scrubbed d (now (s .entry)) place blocks ⌝ }
 {
     let a = scrub_rules(d, s.len(), place);
     if !answer::is_good(a) {
-        return Scrubbed {
-            answer: a,
-            next: place,
-            judged: 0,
-            faults: 0,
-            first: 0,
-        };
+        return refused(a, place);
     }
     let t = guard::table();
     let mut faults: u64 = 0;

@@ -8,32 +8,27 @@ fn main() {
 
 // All of M in one call, and block by block.
 fn steps() {
-    of_m(0, b"0, 3 blocks", 0, 3);
-    of_m(0, b"0, 1 block", 0, 1);
-    of_m(0, b"1, 1 block", 1, 1);
-    of_m(0, b"2, 1 block", 2, 1);
+    of_m(0, 0, 3);
+    of_m(0, 0, 1);
+    of_m(0, 1, 1);
+    of_m(0, 2, 1);
 }
 
 // More blocks than are left, none, and from N on.
 fn ends() {
-    of_m(
-        0,
-        b"1, 18446744073709551615 blocks",
-        1,
-        0xFFFF_FFFF_FFFF_FFFF,
-    );
-    of_m(0, b"1, 0 blocks", 1, 0);
-    of_m(0, b"3, 1 block", 3, 1);
+    of_m(0, 1, 0xFFFF_FFFF_FFFF_FFFF);
+    of_m(0, 1, 0);
+    of_m(0, 3, 1);
 }
 
 // A place above N, and with it a description whose ATO is 2.
 fn refusals() {
-    of_m(0, b"4, 1 block", 4, 1);
-    of_m(2, b"4, 1 block, with ATO 2", 4, 1);
+    of_m(0, 4, 1);
+    of_m(2, 4, 1);
 }
 
 // A scrub of M, described with this ATO.
-fn of_m(ato: u64, name: &[u8], place: u64, blocks: u64) {
+fn of_m(ato: u64, place: u64, blocks: u64) {
     let d = segment::described(1, 8, 0, 7, 3, ato);
     let x = scrub::scrub(
         d,
@@ -42,9 +37,10 @@ fn of_m(ato: u64, name: &[u8], place: u64, blocks: u64) {
         blocks,
     );
     let a = x.answer;
-    io::write_all(1, b"scrub of M from ");
-    io::write_all(1, name);
-    number(b": ", answer::number(a));
+    number(b"scrub of M with ATO ", ato);
+    number(b", place ", place);
+    number(b", blocks ", blocks);
+    number(b": answer ", answer::number(a));
     number(b", next ", x.next);
     number(b", judged ", x.judged);
     number(b", faults ", x.faults);

@@ -1,46 +1,52 @@
--- A block has a fault exactly where judging what a READ of it alone would hand on, with what code 001 of 16 bytes checks, is not good.
+-- No block has a fault exactly where a READ of the whole segment, judged by what code 001 of 16 bytes checks, has no wrong interval.
 -- Assumes nothing.
-use mathlib.Core.Path.{_≡_, refl, sym, ap, _∙_}
-use mathlib.Core.Bool.{Bool, true, false, not}
+use mathlib.Core.Path.{_≡_, refl, sym, ap, ap₂, _∙_}
+use mathlib.Core.Logic.{_↔_}
+use mathlib.Core.Bool.{Bool, true, false}
 use mathlib.Core.List.{List}
-use Prim.Native.Nat.{ℕ, _+_, _*_, _-_}
-use native.Mathlib.Nat.{one-mul}
-use native.Mathlib.Omega.{arith}
-use borrow.Author.Tests.{eqb-true, eqb-false, eq-eqb, ne-eqb}
-use lib.Dec.{eqb}
-use lib.ListN.{take, drop}
-use Rattle.answer.specs.Answer.{isGood}
-use Rattle.answer.specs.declared.Answer.{Answer}
-use Rattle.answer.proofs.Ladder.{orElse-none}
+use Prim.Native.Nat.{ℕ, _+_, _*_, _^_, _<_}
+use native.Mathlib.Nat.{zero-add, zero-mul}
+use borrow.Author.Tests.{eq-eqb, ne-eqb, eqb-true, eqb-false}
+use lib.Dec.{eqb, lit<}
+use lib.ListN.{drop}
+use Rattle.answer.specs.declared.Answer.the-variants as answers
 use Rattle.segment.specs.declared.Description.{Description}
-use Rattle.segment.specs.Segment.{Segment, storedOf}
-use Rattle.segment.specs.Places.{offsetOf, spanOf, blocksFrom}
+use Rattle.segment.specs.Segment.{intervalsOf, sizeOf}
 use Rattle.command.specs.Sixteen.{sixteen}
+use Rattle.words.proofs.Turns.{after}
 use Rattle.judge.specs.FirstOf.{firstOf}
-use Rattle.judge.specs.Judge.{judgeBlock, judgeBlocks}
+use Rattle.judge.specs.Judge.{judgeBlocks}
 use Rattle.sides.specs.declared.Side.the-variants.{Stored}
 use Rattle.sides.specs.Sides.{checkedOn}
-use Rattle.rules.specs.Rules.{rulesOf, startOf}
-use Rattle.transfer.specs.Transfer.{blocksOf, judgedOn}
-use Rattle.scrub.specs.Scrub.{readBlock, faultyBlock, faultyAt}
-use Rattle.scrub.proofs.Laws.{block-is, block-plain, block-judged}
+use Rattle.rules.specs.Rules.{firstTag, rulesOf, startOf}
+use Rattle.rules.specs.Intervals.{placeAt}
+use Rattle.rules.specs.ReadAll.{readAll}
+use Rattle.rules.proofs.Places.{tag-small, block-place}
+use Rattle.transfer.specs.Transfer.{judgedOn}
+use Rattle.scrub.specs.Scrub.{faultyAt}
+use Rattle.scrub.specs.Onward.{judgedFrom}
+use Rattle.scrub.proofs.Judging.{fault-plain, right-exactly}
 
-module _ (d : Description) (at : ℕ) where
-  judged-plain : (s : List ℕ) → d .kind ≡ 0 → isGood (judgedOn Stored d (readBlock d at) s) ≡ true
+module _ (d : Description) (s : List ℕ) where
+  judged-plain : d .kind ≡ 0 → judgedOn Stored d (readAll d) s ≡ answers.Good
   unfolding judgedOn checkedOn judgeBlocks firstOf
-  judged-plain s k = rw (eq-eqb (d .kind) 0 k) refl
+  judged-plain k = rw (eq-eqb (d .kind) 0 k) refl
 
-  judged-one : (s : List ℕ) → (d .kind ≡ 0 → ⊥) → faultyBlock d at s ≡ not (isGood (judgedOn Stored d (readBlock d at) s))
-  unfolding judgedOn checkedOn judgeBlocks firstOf sixteen
-  judged-one s n = rw (ne-eqb (d .kind) 0 n) (block-judged d at s n ∙ ap (λ (a : Answer). not (isGood a)) (sym (orElse-none (judgeBlock (rulesOf Stored d (readBlock d at)) (startOf d (readBlock d at)) s))))
+  judged-all : (d .kind ≡ 0 → ⊥) → judgedOn Stored d (readAll d) s ≡ judgedFrom d s 0 (d .count)
+  unfolding judgedOn judgedFrom checkedOn sixteen after
+  judged-all n =
+      let none : drop (0 * (intervalsOf d * (sizeOf d + 8))) s ≡ s = ap (λ (k : ℕ). drop k s) (zero-mul (intervalsOf d * (sizeOf d + 8))) in
+      rw (ne-eqb (d .kind) 0 n)
+      (ap₂ (judgeBlocks (rulesOf Stored d (readAll d)) (d .count)) (block-place d (readAll d) (tag-small d (readAll d) (lit< tt)) 0) (sym none))
 
-  own-blocks : (s : List ℕ) → blocksOf d (readBlock d at) s ≡ take (storedOf d) (drop (at * storedOf d) s)
-  unfolding blocksOf blocksFrom offsetOf spanOf sixteen
-  own-blocks s = let on : d .first + at - d .first ≡ at = omega arith in rw (on, one-mul) refl
-
-  pub faulty-as-read : (s : List ℕ) → Segment d → faultyAt d s at ≡ not (isGood (judgedOn Stored d (readBlock d at) (blocksOf d (readBlock d at) s)))
-  faulty-as-read s g = sym (block-is d at s g) ∙ rw (← own-blocks s) (by (eqb (d .kind) 0) refl (blocksOf d (readBlock d at) s))
+  pub none-faulty-as-read : (judgedOn Stored d (readAll d) s ≡ answers.Good) ↔ ((j : ℕ) → j < d .count → faultyAt d s j ≡ false)
+  none-faulty-as-read = by (eqb (d .kind) 0) refl
     where
-      by : (b : Bool) → eqb (d .kind) 0 ≡ b → (t : List ℕ) → faultyBlock d at t ≡ not (isGood (judgedOn Stored d (readBlock d at) t))
-      by true e t = let k = eqb-true (d .kind) 0 e in block-plain d at t k ∙ rw (judged-plain t k) refl
-      by false e t = judged-one t (eqb-false (d .kind) 0 e)
+      by : (b : Bool) → eqb (d .kind) 0 ≡ b → (judgedOn Stored d (readAll d) s ≡ answers.Good) ↔ ((j : ℕ) → j < d .count → faultyAt d s j ≡ false)
+      by true e = let k = eqb-true (d .kind) 0 e in (λ f j h. fault-plain d s j k, λ right. judged-plain k)
+      by false e =
+          let n = eqb-false (d .kind) 0 e in
+          let each = right-exactly d s 0 (d .count) n in (
+            λ f j h. rw (zero-add j) at (each .0 (sym (judged-all n) ∙ f) j h),
+            λ right. judged-all n ∙ each .1 (λ j h. rw (zero-add j) (right j h)),
+          )

@@ -23,7 +23,7 @@ use Rattle.segment.proofs.Rules.{described-rule, length-right}
 use Rattle.scrub.specs.declared.Scrubbed.{Scrubbed}
 use Rattle.scrub.specs.Scrub.{faultyAt, faultsFrom, firstFrom, coveredOf, scrubRules, after, refused, scrubbed}
 use Rattle.scrub.proofs.Laws.{covered-all, covered-left, covered-most, in-order}
-use Rattle.series.specs.Series.{Total, totalOf, followedBy, seriesOf, sumOf}
+use Rattle.series.specs.Series.{totalOf, nothing, followedBy, seriesOf, sumOf}
 use Rattle.series.specs.Faults.{FirstFault}
 
 less : (a b : ℕ) → a ≤ b → (b ≡ a → ⊥) → a < b
@@ -67,7 +67,7 @@ module _ (d : Description) (s : List ℕ) (place blocks : ℕ) where
 
   -- "A refused call hands back the place it was given and zeros."
   pub refused-hands-back : isGood (scrubbed d s place blocks .answer) ≡ false
-      → totalOf (scrubbed d s place blocks) ≡ record { next = place; judged = 0; faults = 0; first = 0 }
+      → totalOf (scrubbed d s place blocks) ≡ nothing place
   refused-hands-back e = ap totalOf (call-refused (sym (ap isGood answer-is-the-rules) ∙ e))
 
   -- good exactly where it is a segment of so many bytes and the place is not above N: a fault is no refusal
@@ -85,13 +85,14 @@ module _ (d : Description) (s : List ℕ) (place blocks : ℕ) where
   count-is-the-distance = told .next
 
   -- "It covers exactly the smaller of that number and the blocks left."
-  pub covers-the-smaller : isGood rules ≡ true
+  pub covers-the-smaller : scrubbed d s place blocks .answer ≡ answers.Good
       → (blocks ≤ d .count - place → scrubbed d s place blocks .judged ≡ blocks)
       × (d .count - place ≤ blocks → scrubbed d s place blocks .judged ≡ d .count - place)
-  covers-the-smaller e = (
-    λ h. ap (λ (x : Scrubbed). x .judged) (call-good e) ∙ covered-all d place blocks h,
-    λ h. ap (λ (x : Scrubbed). x .judged) (call-good e) ∙ by (eqb blocks (d .count - place)) refl h,
-  )
+  covers-the-smaller good =
+      let e : isGood rules ≡ true = ap isGood (sym answer-is-the-rules ∙ good) in (
+        λ h. ap (λ (x : Scrubbed). x .judged) (call-good e) ∙ covered-all d place blocks h,
+        λ h. ap (λ (x : Scrubbed). x .judged) (call-good e) ∙ by (eqb blocks (d .count - place)) refl h,
+      )
     where
       by : (b : Bool) → eqb blocks (d .count - place) ≡ b → d .count - place ≤ blocks → coveredOf d place blocks ≡ d .count - place
       by true q h = let same = eqb-true blocks (d .count - place) q in covered-all d place blocks (omega (arith, same)) ∙ same
@@ -101,11 +102,11 @@ module _ (d : Description) (s : List ℕ) (place blocks : ℕ) where
 
 -- "zero is allowed and moves nothing"
 pub zero-moves-nothing : (d : Description) (s : List ℕ) (place : ℕ)
-    → totalOf (scrubbed d s place 0) ≡ record { next = place; judged = 0; faults = 0; first = 0 }
+    → totalOf (scrubbed d s place 0) ≡ nothing place
 unfolding scrubbed faultsFrom firstFrom
 zero-moves-nothing d s place = rw (covered-all d place 0 zero-le) (by (isGood (rules d s place 0)))
   where
-    by : (b : Bool) → totalOf (cond b (after (rules d s place 0) d s place 0) (refused (rules d s place 0) place)) ≡ record { next = place; judged = 0; faults = 0; first = 0 }
+    by : (b : Bool) → totalOf (cond b (after (rules d s place 0) d s place 0) (refused (rules d s place 0) place)) ≡ nothing place
     by true = rw (add-zero place) refl
     by false = refl
 

@@ -1,12 +1,13 @@
 -- Which block a call names, and which lines the listing has for a block.
 use Prim.Native.Nat.{ℕ, _+_, _≤_, _<_}
 use mathlib.Core.Bool.{true, false}
+use mathlib.Core.Logic.{_⊎_}
 use mathlib.Core.List.{List}
 use mathlib.Core.Path.{_≡_}
 use lib.ListN.{length, getD}
 use Rattle.segment.specs.declared.Description.{Description}
 use Rattle.lines.specs.declared.Line.{Line}
-use Rattle.sheet.specs.Sheet.{faulty}
+use Rattle.lines.specs.declared.State.the-variants.{Guard, Ref}
 use Rattle.contents.specs.Contents.{linesOf}
 use Rattle.scrub.specs.Scrub.{faultyAt}
 
@@ -25,4 +26,4 @@ pub record FaultyLine (d : Description) (s : List ℕ) (at : ℕ) (x : Line) : T
   pub line : ℕ
   pub within : line < length (linesOf d s)
   pub address : getD (linesOf d s) line x .address ≡ d .first + at
-  pub state : faulty (getD (linesOf d s) line x .state) ≡ 1
+  pub state : (getD (linesOf d s) line x .state ≡ Guard) ⊎ (getD (linesOf d s) line x .state ≡ Ref)

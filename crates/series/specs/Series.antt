@@ -17,6 +17,10 @@ pub record Total : Type 0 where
 abbrev pub totalOf : Scrubbed → Total
 totalOf x = record { next = x .next; judged = x .judged; faults = x .faults; first = x .first }
 
+-- the place that was given, and zeros
+abbrev pub nothing : ℕ → Total
+nothing place = record { next = place; judged = 0; faults = 0; first = 0 }
+
 -- a call, and what those behind it give. The first fault is that of the first call with a count above 0: its address may be 0
 abbrev pub followedBy : Scrubbed → Total → Total
 followedBy x t =
@@ -29,7 +33,7 @@ followedBy x t =
 
 -- calls of these numbers of blocks, the first from a place on
 unfoldable pub seriesOf : Description → List ℕ → ℕ → List ℕ → Total
-seriesOf d s place [] = record { next = place; judged = 0; faults = 0; first = 0 }
+seriesOf d s place [] = nothing place
 seriesOf d s place (m ∷ ms) = followedBy (scrubbed d s place m) (seriesOf d s (scrubbed d s place m .next) ms)
 
 -- how many blocks they ask for together

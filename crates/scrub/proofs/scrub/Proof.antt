@@ -1,5 +1,6 @@
 -- `scrub::scrub`: a refused call hands back its place; one in order, what its step leaves.
 -- Assumes nothing.
+use mathlib.Core.Path.{_∙_}
 use native.Mathlib.Omega.{arith}
 use Rattle.scrub.proofs.Laws.{call-fits, call-room, call-refused, call-done}
 use borrow.Author.Needs.{needs}
@@ -7,7 +8,9 @@ use Rattle.scrub.proofs.scrub.Statement.{statement}
 use Rattle.scrub.proofs.scrub.Tie as tie
 
 returns : tie.Need-returns
-returns c = call-refused _ _ _ _ _ _ (c .before .before .scrub-rules .ensures) (c .before .is-good .ensures) (c .if1 .taken)
+returns c =
+    let on = c .before in
+    c .refused .ensures ∙ call-refused _ _ _ _ _ _ (on .before .before .scrub-rules .ensures) (on .before .is-good .ensures) (on .if1 .taken)
 
 step-requires : tie.Need-step-requires
 step-requires c κs =
@@ -29,7 +32,7 @@ pub scrub-spec : {M : Type 1} → statement M
 scrub-spec =
     tie.close
     (tie.spec
-    (λ c κs. search needs) (λ c κs. search needs)
+    (λ c κs. search needs) (λ c κs. search needs) (λ c κs. search needs)
     returns
     (λ c κs. search needs)
     step-requires
