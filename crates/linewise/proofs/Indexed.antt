@@ -84,7 +84,7 @@ unfolding sixteen
 small d = tag-small d (readAll d) (lit< tt)
 
 -- in type 1 a block has one interval, and the tag expected there is the address's low four bytes
-pub one-interval : (d : Description) → Segment d → d .kind ≡ 1 → intervalsOf d ≡ 1
+one-interval : (d : Description) → Segment d → d .kind ≡ 1 → intervalsOf d ≡ 1
 unfolding intervalsOf
 one-interval d g k = ap (λ (e : ℕ). 2 ^ e) (g .plain (omega (arith, k)))
 
