@@ -1,15 +1,15 @@
 -- Where judging stands at an interval.
 -- Assumes nothing.
-use mathlib.Core.Path.{_≡_, refl, sym, ap, _∙_}
+use mathlib.Core.Path.{_≡_, refl, ap, _∙_}
 use mathlib.Core.Bool.{Bool, true, false, cond}
 use Prim.Native.Nat.{ℕ, _+_, _*_, _%_, _^_, _<_}
-use native.Mathlib.Nat.{mod-lt, mod-add-mod, add-assoc, add-zero, zero-add}
+use native.Mathlib.Nat.{mod-lt, mod-add-mod, add-assoc, zero-add}
 use lib.Dec.{eqb, lit<}
 use Rattle.segment.specs.declared.Description.{Description}
 use Rattle.segment.specs.Segment.{intervalsOf}
 use Rattle.command.specs.declared.Command.{Command}
 use Rattle.interval.specs.declared.Place.{Place}
-use Rattle.words.proofs.Turns.{after, after-after}
+use Rattle.words.proofs.Turns.{after}
 use Rattle.judge.specs.Judge.{nextInterval, nextBlock}
 use Rattle.judge.proofs.PlaceLaws.{place-after-interval, place-after-block}
 use Rattle.rules.specs.Rules.{startOf, firstTag}
@@ -35,16 +35,7 @@ place-is d c small j i =
     ap (after nextInterval i) (place-after-block n j (startOf d c) small)
     ∙ place-after-interval i p (mod-lt (firstTag d c + j * n) (lit< tt)) ∙ rw (zero-add, tags) refl
 
--- the place of a block's first interval: where judging from the start on stands, and from there on
-module _ (d : Description) (c : Command) where
-  pub place-told : (j n w tag t : ℕ) → n ≡ intervalsOf d → w ≡ j * n → tag ≡ firstTag d c → t ≡ (tag + w) % 2 ^ 32
-      → _≡_ {A = Place} (record { address = c .address + j; interval = w; tag = t }) (placeAt d c j 0)
-  place-told j n w tag t en ew et e = rw (e, ew, et, en, add-zero (j * intervalsOf d)) refl
-
-  pub block-place : firstTag d c < 2 ^ 32 → (j : ℕ) → after (nextBlock (intervalsOf d)) j (startOf d c) ≡ placeAt d c j 0
-  unfolding after
-  block-place small j = place-is d c small j 0
-
-  pub block-after : firstTag d c < 2 ^ 32 → (k j : ℕ) → after (nextBlock (intervalsOf d)) j (placeAt d c k 0) ≡ placeAt d c (k + j) 0
-  block-after small k j =
-      ap (after (nextBlock (intervalsOf d)) j) (sym (block-place small k)) ∙ after-after (nextBlock (intervalsOf d)) k j (startOf d c) ∙ block-place small (k + j)
+-- the same at the first interval of a block
+pub block-place : (d : Description) (c : Command) → firstTag d c < 2 ^ 32 → (j : ℕ) → after (nextBlock (intervalsOf d)) j (startOf d c) ≡ placeAt d c j 0
+unfolding after
+block-place d c small j = place-is d c small j 0

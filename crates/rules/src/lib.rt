@@ -1,12 +1,8 @@
 // How a transfer's intervals are judged: from the description and the command to the rules of judging and the first tags.
 ghost use mathlib.Core.Path.{_≡_};
-ghost use Prim.Native.Nat.{_+_, _≤_, _<_, _^_};
 ghost use Rattle.segment.specs.Segment.{Segment};
 ghost use Rattle.rules.specs.Rules.{columnsIn, columnsOf, applicationKnown, referenceKnown, firstTag, escapeOf, rulesOf, startOf};
-ghost use Rattle.rules.specs.Intervals.{placeAt};
-ghost use Rattle.rules.specs.ReadAll.{readAll};
 use command::Command;
-use command::Operation;
 use interval::Escape;
 use interval::Place;
 use interval::Rules;
@@ -104,24 +100,4 @@ pub fn start(d: Description, c: Command) -> Place
         interval: 0,
         tag: first_tag(d, c),
     }
-}
-
-// Where judging stands at the first interval of a block, so many blocks after the first.
-pub fn place_at(d: Description, c: Command, blocks: u64) -> Place
-    requires { ⌜ (Segment d) × (blocks ≤ 65536) × (c .address + blocks < 2 ^ 64) ⌝ }
-    ensures { λ p. ⌜ p ≡ placeAt d c blocks 0 ⌝ }
-{
-    let interval = blocks * segment::intervals(d) as u64;
-    Place {
-        address: c.address + blocks,
-        interval,
-        tag: std::num::wrapping_add_u32(first_tag(d, c), interval as u32),
-    }
-}
-
-// The command by which the listing and the scrub judge: code 001 of a 16-byte READ of the whole segment.
-pub fn read_all(d: Description) -> Command
-    ensures { λ c. ⌜ c ≡ readAll d ⌝ }
-{
-    command::sixteen(Operation::Read, d.first, d.count)
 }

@@ -8,12 +8,11 @@ use lib.ListN.{length}
 use Rattle.answer.specs.declared.Answer.{Answer}
 use Rattle.segment.specs.declared.Description.{Description}
 use Rattle.segment.specs.Segment.{Segment, lengthOf}
-use Rattle.segment.specs.Places.{blockAt}
-use Rattle.judge.specs.Judge.{judgeBlocks}
+use Rattle.command.specs.declared.Command.{Command}
+use Rattle.command.specs.declared.Operation.the-variants.{Read}
+use Rattle.command.specs.Sixteen.{sixteen}
 use Rattle.sides.specs.declared.Side.the-variants.{Stored}
-use Rattle.rules.specs.Rules.{rulesOf}
-use Rattle.rules.specs.Intervals.{placeAt}
-use Rattle.rules.specs.ReadAll.{readAll}
+use Rattle.transfer.specs.Transfer.{blocksOf, judgedOn}
 use Rattle.scrub.specs.declared.Found.{Found}
 use Rattle.scrub.specs.Scrub.{faultyAt}
 
@@ -23,9 +22,12 @@ pub record Within (d : Description) (s : List ℕ) (at count : ℕ) : Type 0 whe
   pub long : lengthOf d ≡ length s
   pub end : at + count ≤ d .count
 
--- their first wrong interval
+-- their first wrong interval: what a 16-byte READ of them with code 001 would find
+abbrev pub readFrom : Description → ℕ → ℕ → Command
+readFrom d at count = sixteen Read (d .first + at) count
+
 unfoldable pub judgedFrom : Description → List ℕ → ℕ → ℕ → Answer
-judgedFrom d s at count = judgeBlocks (rulesOf Stored d (readAll d)) count (placeAt d (readAll d) at 0) (blockAt d s at)
+judgedFrom d s at count = judgedOn Stored d (readFrom d at count) (blocksOf d (readFrom d at count) s)
 
 -- of so many blocks from a place on, the first r are right, and the one behind them, if it is one of these, has a fault
 pub record RightBefore (d : Description) (s : List ℕ) (at count r : ℕ) : Type 0 where

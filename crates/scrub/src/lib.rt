@@ -7,6 +7,7 @@ ghost use Rattle.segment.specs.Segment.{Segment, lengthOf};
 ghost use Rattle.scrub.specs.Scrub.{coveredOf, Stepped, scrubRules, refused, scrubbed};
 ghost use Rattle.scrub.specs.Onward.{Within, judgedFrom, RightBefore, withFault, past};
 use answer::Answer;
+use command::Operation;
 use segment::Description;
 use sides::Side;
 
@@ -28,30 +29,26 @@ pub struct Scrubbed {
     pub first: u64,
 }
 
-// The first wrong interval of `count` blocks from a place on.
+// The first wrong interval of `count` blocks from a place on: what a 16-byte READ of them with code 001 would find. The type rules
+// are not applied: in type 2 such a command itself would be answered 5.
 fn judge_from(t: &[u16; 256], d: Description, s: &[u8], at: u64, count: u64) -> Answer
     requires { ⌜ Right (now t) ⌝ }
     requires { ⌜ Within d (now s) at count ⌝ }
-    requires { ⌜ (d .kind ≡ 0 → ⊥) ⌝ }
     ensures { λ a. ⌜ a ≡ judgedFrom d (now (s .entry)) at count ⌝ }
 {
-    let i = segment::offset(d, d.first + at);
+    let address = d.first + at;
+    let i = segment::offset(d, address);
     let end = i + segment::span(d, count);
-    let c = rules::read_all(d);
-    let r = rules::rules(Side::Stored, d, c);
-    let p = rules::place_at(d, c, at);
-    judge::judge_blocks(t, r, p, count as usize, &s[i..end])
+    let c = command::sixteen(Operation::Read, address, count);
+    transfer::judge_on(t, Side::Stored, d, c, &s[i..end])
 }
 
-// How many of `count` blocks from a place on are right before the first that has a fault; all of them where none has, as in type 0.
+// How many of `count` blocks from a place on are right before the first that has a fault; all of them where none has.
 fn right_before(t: &[u16; 256], d: Description, s: &[u8], at: u64, count: u64) -> u64
     requires { ⌜ Right (now t) ⌝ }
     requires { ⌜ Within d (now s) at count ⌝ }
     ensures { λ r. ⌜ RightBefore d (now (s .entry)) at count r ⌝ }
 {
-    if d.kind == 0 {
-        return count;
-    }
     let a = judge_from(t, d, s, at, count);
     if answer::is_good(a) {
         return count;

@@ -15,11 +15,6 @@ unfoldable pub after : {A : Type 0} → (A → A) → ℕ → A → A
 after next zero t = t
 after next (suc j) t = after next j (next t)
 
-pub after-after : {A : Type 0} (next : A → A) (k j : ℕ) (t : A) → after next j (after next k t) ≡ after next (k + j) t
-unfolding after
-after-after next zero j t = rw zero-add refl
-after-after next (suc k) j t = rw suc-add (after-after next k j (next t))
-
 -- a value that stays as it is
 pub after-same : {A : Type 0} (k : ℕ) (t : A) → after (λ u. u) k t ≡ t
 unfolding after

@@ -15,13 +15,13 @@ print-blocks-requires c κs =
     let start = read .before .before .before .before .before in
     let rules = c .before .before .before .rules .ensures in
     let first = c .before .before .start .ensures in
-    (c .before .before .before .before .table .ensures, (blocks-run _ _ (start .pre .0) (start .pre .1 .0) on (read .read-all .ensures) rules first, blocks-room _ (start .args .s .now) (start .pre .0) (start .pre .1 .0) on (read .read-all .ensures) rules first (start .pre .1 .1)))
+    (c .before .before .before .before .table .ensures, (blocks-run _ _ (start .pre .0) (start .pre .1 .0) on (read .sixteen .ensures) rules first, blocks-room _ (start .args .s .now) (start .pre .0) (start .pre .1 .0) on (read .sixteen .ensures) rules first (start .pre .1 .1)))
 
 returns-2 : tie.Need-returns-2
 returns-2 c =
     let read = c .before .before .before .before .before .before .before .before in
     let pre = read .before .before .before .before .before .pre in
-    blocks-printed _ _ (pre .0) (pre .1 .0) (read .before .if1 .left) (read .read-all .ensures) (c .before .before .before .before .before .before .rules .ensures) (c .before .before .before .before .before .start .ensures) (c .before .before .print-blocks .ensures)
+    blocks-printed _ _ (pre .0) (pre .1 .0) (read .before .if1 .left) (read .sixteen .ensures) (c .before .before .before .before .before .before .rules .ensures) (c .before .before .before .before .before .start .ensures) (c .before .before .print-blocks .ensures)
 
 pub print-segment-spec : {M : Type 1} → statement M
 print-segment-spec =
