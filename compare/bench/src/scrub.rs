@@ -10,7 +10,7 @@ use crate::options::Options;
 use crate::table::{Case, OURS_AND_RUST, Output, Pass, Table, Verdict, measure};
 
 /// The block lengths with their exponents.
-const BLOCKS: [(usize, u32); 5] = [(8, 0), (512, 0), (520, 3), (4_096, 0), (4_096, 3)];
+const BLOCKS: [(usize, u32); 6] = [(8, 0), (64, 0), (512, 0), (520, 3), (4_096, 0), (4_096, 3)];
 
 const LIMIT: f64 = 1.25;
 
