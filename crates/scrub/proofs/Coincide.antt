@@ -1,7 +1,7 @@
 -- "any two permitted answers coincide": of each public function, over its contract as it stands. Whatever the arguments a are, two
 -- answers x and y that the contract permits are one, and so is each byte lent to be written, as the calls leave it in s and in t.
 -- Assumes nothing.
-use mathlib.Core.Path.{_≡_, sym, ap, _∙_}
+use mathlib.Core.Path.{_≡_, sym, _∙_}
 use denote.Ref.{now}
 use Rattle.scrub.proofs.Laws.{steps-coincide}
 use Rattle.scrub.proofs.step.Reads as step-reads

@@ -17,7 +17,7 @@ use Rattle.answer.specs.declared.Answer.{Answer}
 use Rattle.answer.specs.declared.Answer.the-variants as answers
 use Rattle.answer.proofs.Ladder.{good-is, not-both}
 use Rattle.segment.specs.declared.Description.{Description}
-use Rattle.segment.specs.Segment.{Segment, intervalsOf, sizeOf, lengthOf}
+use Rattle.segment.specs.Segment.{Segment, intervalsOf, sizeOf}
 use Rattle.segment.specs.Places.{offsetOf, spanOf, blocksFrom, blockAt}
 use Rattle.segment.proofs.Laws.{stored-intervals}
 use Rattle.segment.proofs.Places.{span-within, span-intervals}
@@ -36,7 +36,7 @@ use Rattle.rules.specs.Rules.{columnsOf, applicationKnown, referenceKnown, firs
 use Rattle.rules.specs.Intervals.{placeAt}
 use Rattle.rules.specs.ReadAll.{readAll}
 use Rattle.rules.proofs.Places.{tag-small, block-place}
-use Rattle.transfer.specs.Transfer.{blocksOf, judgedOn}
+use Rattle.transfer.specs.Transfer.{blocksOf}
 use Rattle.transfer.specs.Inner.{Shaped}
 use Rattle.transfer.proofs.Shapes.{judged-none, judged-all}
 use Rattle.scrub.specs.Scrub.{faultyAt}
