@@ -9,7 +9,6 @@ use lib.Dec.{lit≤}
 use Rattle.answer.specs.Answer.{isGood}
 use Rattle.answer.specs.declared.Answer.{Answer}
 use Rattle.answer.specs.declared.Answer.the-variants as answers
-use Rattle.answer.specs.declared.Field.the-variants as fields
 use Rattle.segment.specs.declared.Description.{Description}
 use Rattle.segment.specs.Segment.{intervalsOf, sizeOf}
 use Rattle.segment.specs.Places.{blockAt, intervalAt}
@@ -24,6 +23,7 @@ use Rattle.interval.proofs.PieceLaws.{pieces-verdict}
 use Rattle.judge.specs.FirstOf.{firstOf}
 use Rattle.judge.specs.Judge.{judgeIntervals, judgeBlock, judgeBlocks, nextInterval, nextBlock}
 use Rattle.answer.proofs.Ladder.{not-both}
+use Rattle.judge.proofs.Named.{inTurn}
 use Rattle.judge.proofs.FirstLaws.{first-good, first-found, FirstWrong}
 use Rattle.sides.specs.declared.Side.{Side}
 use Rattle.sides.specs.Sides.{checkedOn}
@@ -34,11 +34,6 @@ use Rattle.transfer.specs.Transfer.{judgedOn}
 use Rattle.demands.specs.Checked.{Names, FirstWrongInterval}
 
 -- ---- one interval
-abbrev inTurn : Place → Bool → Bool → Bool → Answer
-inTurn p g a f =
-    cond g (answers.Wrong fields.Guard (p .address) (p .interval))
-    (cond a (answers.Wrong fields.Application (p .address) (p .interval)) (cond f (answers.Wrong fields.Reference (p .address) (p .interval)) answers.Good))
-
 names : (p : Place) (g a f : Bool) → isGood (inTurn p g a f) ≡ false → Names p (inTurn p g a f)
 names p true a f w = record { least = lit≤ tt; most = lit≤ tt; address = refl; place = refl }
 names p false true f w = record { least = lit≤ tt; most = lit≤ tt; address = refl; place = refl }

@@ -9,13 +9,13 @@ use lib.ListN.{drop}
 use Rattle.answer.specs.Answer.{isGood, orElse}
 use Rattle.answer.specs.declared.Answer.{Answer}
 use Rattle.answer.specs.declared.Answer.the-variants as answers
-use Rattle.answer.specs.declared.Field.the-variants as fields
 use Rattle.field.specs.Field.{dataOf, fieldOf, storedReference}
 use Rattle.interval.specs.declared.Rules.{Rules}
 use Rattle.interval.specs.declared.Place.{Place}
 use Rattle.interval.specs.Interval.{anyEscapes, guardWrong, applicationWrong, referenceWrong, judgePieces, judgeInterval}
 use Rattle.judge.specs.FirstOf.{firstOf}
 use Rattle.judge.specs.Judge.{judgeIntervals, judgeBlock, nextInterval}
+use Rattle.judge.proofs.Named.{inTurn}
 
 -- the same tag is expected, where any is
 abbrev pub SameTag : Rules → Place → Place → Type 0
@@ -36,11 +36,6 @@ module _ (r : Rules) where
       by : (b : Bool) → (b ≡ true → p .tag ≡ q .tag) → (b && not (eqb (storedReference f) (p .tag))) ≡ (b && not (eqb (storedReference f) (q .tag)))
       by true e = ap (λ (t : ℕ). not (eqb (storedReference f) t)) (e refl)
       by false e = refl
-
-  abbrev inTurn : Place → Bool → Bool → Bool → Answer
-  inTurn p g a f =
-      cond g (answers.Wrong fields.Guard (p .address) (p .interval))
-      (cond a (answers.Wrong fields.Application (p .address) (p .interval)) (cond f (answers.Wrong fields.Reference (p .address) (p .interval)) answers.Good))
 
   turn-alike : (p q : Place) (g a f : Bool) → isGood (inTurn p g a f) ≡ isGood (inTurn q g a f)
   turn-alike p q true a f = refl

@@ -18,7 +18,8 @@ use Rattle.judge.specs.FirstOf.{firstOf}
 use Rattle.judge.specs.Judge.{judgeIntervals, judgeBlock, nextInterval}
 use Rattle.judge.proofs.FirstLaws.{first-found}
 
-abbrev inTurn : Place → Bool → Bool → Bool → Answer
+-- "in one interval guard, application, reference": what is answered where these are wrong
+abbrev pub inTurn : Place → Bool → Bool → Bool → Answer
 inTurn p g a f =
     cond g (answers.Wrong fields.Guard (p .address) (p .interval))
     (cond a (answers.Wrong fields.Application (p .address) (p .interval)) (cond f (answers.Wrong fields.Reference (p .address) (p .interval)) answers.Good))
