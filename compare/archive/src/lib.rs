@@ -1,6 +1,8 @@
 //! The static archive's functions: as C declares them, and on slices and the
 //! reference's description, so that both take the same input.
 
+use std::mem::MaybeUninit;
+
 use reference::{Description, Outcome, Scrubbed};
 
 /// The declarations. Every slice is a pointer and a length; whatever is only
@@ -166,9 +168,13 @@ pub fn fill(d: &Description, segment: &mut [u8]) -> u64 {
 /// the address of the first.
 #[inline(always)]
 pub fn scrub(d: &Description, segment: &[u8], place: u64, blocks: u64) -> Scrubbed {
-    let (mut next, mut judged, mut faults, mut first_fault) = (0, 0, 0, 0);
-    let answer = unsafe {
-        c::lamptassel_scrub(
+    let mut next = MaybeUninit::uninit();
+    let mut judged = MaybeUninit::uninit();
+    let mut faults = MaybeUninit::uninit();
+    let mut first_fault = MaybeUninit::uninit();
+    // SAFETY: the four places are written with every answer.
+    unsafe {
+        let answer = c::lamptassel_scrub(
             d.p,
             d.b,
             d.e,
@@ -179,18 +185,18 @@ pub fn scrub(d: &Description, segment: &[u8], place: u64, blocks: u64) -> Scrubb
             segment.len(),
             place,
             blocks,
-            &mut next,
-            &mut judged,
-            &mut faults,
-            &mut first_fault,
-        )
-    };
-    Scrubbed {
-        answer,
-        next,
-        judged,
-        faults,
-        first_fault,
+            next.as_mut_ptr(),
+            judged.as_mut_ptr(),
+            faults.as_mut_ptr(),
+            first_fault.as_mut_ptr(),
+        );
+        Scrubbed {
+            answer,
+            next: next.assume_init(),
+            judged: judged.assume_init(),
+            faults: faults.assume_init(),
+            first_fault: first_fault.assume_init(),
+        }
     }
 }
 

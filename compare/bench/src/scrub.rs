@@ -14,6 +14,11 @@ const BLOCKS: [(usize, u32); 6] = [(8, 0), (64, 0), (512, 0), (520, 3), (4_096, 
 
 const LIMIT: f64 = 1.25;
 
+/// A call for a single block of 8 bytes has the limit that commands have with such blocks:
+/// the copy of the table is as much of it as the block.
+const SMALLEST: usize = 8;
+const SMALLEST_LIMIT: f64 = 2.00;
+
 /// The most blocks of a segment, so that a step of as many goes through any at once.
 const ALL: usize = 65_536;
 
@@ -23,8 +28,11 @@ const STEPS: [usize; 3] = [1, FEW, ALL];
 const FEW: usize = 16;
 const FEW_LIMIT: f64 = 1.10;
 
-/// Both implementations of a step.
-type Scrub = fn(&Description, &[u8], u64, u64) -> Scrubbed;
+/// An implementation of a step. Each is a type of its own, so that it is called as a
+/// server calls it: by a pointer, the archive's would be called through a second function.
+trait Scrub: Fn(&Description, &[u8], u64, u64) -> Scrubbed {}
+
+impl<F: Fn(&Description, &[u8], u64, u64) -> Scrubbed> Scrub for F {}
 
 /// The bytes of a segment's totals.
 const TOTALS: usize = 40;
@@ -78,9 +86,18 @@ impl Segment {
     fn beside_rust(&self) -> [Case<'_>; STEPS.len()] {
         STEPS.map(|step| {
             let name = format!("{} {step:5}", self.name());
-            let ways = [archive::scrub as Scrub, reference::scrub];
-            self.case(name, LIMIT, ways.map(|scrub| self.pass(scrub, step)))
+            let ours = self.pass(archive::scrub, step);
+            let rust = self.pass(reference::scrub, step);
+            self.case(name, self.limit(step), [ours, rust])
         })
+    }
+
+    fn limit(&self, step: usize) -> f64 {
+        if step == 1 && self.desc.b as usize == SMALLEST {
+            SMALLEST_LIMIT
+        } else {
+            LIMIT
+        }
     }
 
     /// A line for what short steps take longer.
@@ -107,20 +124,24 @@ impl Segment {
     }
 
     /// Goes through the segment so often; the results are the last totals.
-    fn pass(&self, scrub: Scrub, step: usize) -> Pass<'_> {
+    fn pass<'a>(&'a self, scrub: impl Scrub + 'a, step: usize) -> Pass<'a> {
         Box::new(move |results| {
             let mut totals = [0; TOTALS / 8];
             for _ in 0..self.times {
-                totals = self.totals(scrub, step as u64);
+                totals = self.totals(&scrub, step as u64);
             }
             results.copy_from_slice(totals.map(u64::to_le_bytes).as_flattened());
         })
     }
 
-    /// The last answer and place, the blocks judged and the faults of all steps, and the
-    /// first fault.
-    fn totals(&self, scrub: Scrub, step: u64) -> [u64; TOTALS / 8] {
-        let (mut judged, mut faults, mut first_fault) = (0, 0, 0);
+    /// The last answer and place, how the blocks judged differ from the distance moved,
+    /// the faults of all steps, and the first fault.
+    ///
+    /// Blocks judged and faults are not both summed: the compiler would read the two at
+    /// once, and such a read of what was written one by one holds up all that follows
+    /// until the call has ended.
+    fn totals(&self, scrub: &impl Scrub, step: u64) -> [u64; TOTALS / 8] {
+        let (mut differ, mut faults, mut first_fault) = (0, 0, 0);
         let mut place = 0;
         loop {
             let found = scrub(&self.desc, &self.bytes, place, step);
@@ -128,10 +149,10 @@ impl Segment {
                 first_fault = found.first_fault;
             }
             faults += found.faults;
-            judged += found.judged;
+            differ |= found.judged ^ found.next.wrapping_sub(place);
             // One that stands still would never come to the end.
             if found.next <= place || found.next >= self.desc.n {
-                return [found.answer, found.next, judged, faults, first_fault];
+                return [found.answer, found.next, differ, faults, first_fault];
             }
             place = found.next;
         }
