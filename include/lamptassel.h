@@ -181,7 +181,7 @@ uint64_t lamptassel_format_choice(uint64_t spt, uint64_t protect, uint64_t fmtpi
 
 /*
  * Fills a fresh segment: all data bytes 00h, all field bytes FFh. Types 1 to 3: every block
- * has the escape, and READ and VERIFY check nothing in it.
+ * has the escape, and READ, VERIFY and a scrub check nothing in it.
  *
  *   kind .. ato  the segment's six numbers
  *   segment      room for its stored blocks, N * S bytes
@@ -228,8 +228,9 @@ uint64_t lamptassel_fill(uint64_t kind, uint64_t block, uint64_t exponent, uint6
  * Nobody may write the segment during a call. Between calls anybody may: each call tells of
  * its blocks as they were during that call, so a block that is written before the scrub
  * comes to it is judged as written, and one that is written after it has passed is not
- * looked at again. If nothing is written between the first call and the last, the sum of
- * faults and the first fault are those of one call over all blocks, whatever the steps.
+ * looked at again: the sum of faults is then not that of the segment at any one moment. If
+ * nothing is written between the first call and the last, the sum of faults and the first
+ * fault are those of one call over all blocks, whatever the steps.
  */
 uint64_t lamptassel_scrub(uint64_t kind, uint64_t block, uint64_t exponent, uint64_t first, uint64_t count,
                           uint64_t ato, const uint8_t *segment, size_t segment_length, uint64_t place,

@@ -8,14 +8,14 @@ use Prim.Native.Nat.{ℕ, suc, _+_, _*_, _/_, _%_, _^_, _≤_, _<_}
 use native.Mathlib.Nat.{mod-lt, suc-mul, mul-le-mul-right, div-add-mod', div-lt-iff-lt-mul}
 use native.Mathlib.Omega.{arith}
 use borrow.Author.Tests.{eqb-true, eqb-false, not-true, not-false}
-use lib.Dec.{eqb, lit<}
+use lib.Dec.{eqb, lit<, lit≤}
 use lib.ListN.{length, getD}
 use Rattle.answer.specs.Answer.{isGood}
 use Rattle.answer.specs.declared.Answer.{Answer}
 use Rattle.answer.specs.declared.Answer.the-variants as answers
 use Rattle.answer.proofs.Ladder.{good-is, not-both}
 use Rattle.segment.specs.declared.Description.{Description}
-use Rattle.segment.specs.Segment.{Segment, intervalsOf, sizeOf, lengthOf}
+use Rattle.segment.specs.Segment.{Segment, intervalsOf, sizeOf, storedOf, lengthOf}
 use Rattle.segment.specs.Places.{blockAt, intervalAt}
 use Rattle.segment.proofs.Laws.{sizes}
 use Rattle.command.specs.Sixteen.{sixteen}
@@ -26,7 +26,7 @@ use Rattle.judge.specs.FirstOf.{firstOf}
 use Rattle.judge.specs.Judge.{judgeIntervals, judgeBlock, nextInterval}
 use Rattle.judge.proofs.FirstLaws.{first-good, first-found}
 use Rattle.sides.specs.declared.Side.the-variants.{Stored}
-use Rattle.rules.specs.Rules.{firstTag, rulesOf}
+use Rattle.rules.specs.Rules.{applicationKnown, referenceKnown, firstTag, rulesOf}
 use Rattle.rules.specs.Intervals.{placeAt, skipped, verdictAt}
 use Rattle.rules.specs.ReadAll.{readAll}
 use Rattle.rules.proofs.Places.{tag-small, place-is, block-place}
@@ -40,7 +40,7 @@ use Rattle.linewise.proofs.Demands.{lines-all, lines-plain}
 use Rattle.linewise.proofs.Indexed.{line-at, faulty-exactly}
 use Rattle.scrub.specs.Scrub.{faultyAt}
 use Rattle.scrub.proofs.Judging.{fault-plain, fault-judged}
-use Rattle.series.specs.Faults.{FaultyLine}
+use Rattle.series.specs.Faults.{recorded, FaultyLine}
 
 -- the states that count as a fault
 guard-or-ref : (x : State) → (faulty x ≡ 0 → ⊥) → (x ≡ Guard) ⊎ (x ≡ Ref)
@@ -153,3 +153,35 @@ module _ (d : Description) (s : List ℕ) (g : Segment d) (long : lengthOf d ≡
       by false e =
           let n = eqb-false (d .kind) 0 e in
           (listed n, λ l. let w = line-of n l in told-by n (w .0) (w .1 .0) (w .1 .1))
+
+-- ---- the listing program's own lines: a record has no ATO, and the scrub may be told any
+-- the application tag is not looked at, so ATO makes no difference
+pub fault-whatever-ato : (d : Description) (s : List ℕ) (j : ℕ) → faultyAt d s j ≡ faultyAt (recorded d) s j
+unfolding faultyAt sixteen intervalsOf sizeOf applicationKnown referenceKnown firstTag rulesOf
+fault-whatever-ato d s j = refl
+
+recorded-segment : (d : Description) → Segment d → Segment (recorded d)
+recorded-segment d g =
+    record {
+      kind = g .kind;
+      ato = lit≤ tt;
+      least = g .least;
+      most = g .most;
+      eights = g .eights;
+      exponent = g .exponent;
+      plain = g .plain;
+      some = g .some;
+      count = g .count;
+      end = g .end;
+    }
+
+recorded-length : (d : Description) → lengthOf (recorded d) ≡ lengthOf d
+unfolding lengthOf storedOf intervalsOf
+recorded-length d = refl
+
+pub faulty-exactly-where-the-program-lists : (d : Description) (s : List ℕ) → Segment d → lengthOf d ≡ length s → (j : ℕ) → j < d .count → (x : Line)
+    → (faultyAt d s j ≡ true) ↔ FaultyLine (recorded d) s j x
+faulty-exactly-where-the-program-lists d s g long j block x =
+    let e = fault-whatever-ato d s j in
+    let listed = faulty-exactly-where-listed (recorded d) s (recorded-segment d g) (recorded-length d ∙ long) j block x in
+    (λ f. listed .0 (sym e ∙ f), λ l. e ∙ listed .1 l)

@@ -6,6 +6,7 @@ use mathlib.Core.List.{List}
 use mathlib.Core.Path.{_≡_}
 use lib.ListN.{length, getD}
 use Rattle.segment.specs.declared.Description.{Description}
+use Rattle.segment.specs.Segment.{described}
 use Rattle.lines.specs.declared.Line.{Line}
 use Rattle.lines.specs.declared.State.the-variants.{Guard, Ref}
 use Rattle.contents.specs.Contents.{linesOf}
@@ -19,6 +20,10 @@ pub record FirstFault (d : Description) (s : List ℕ) (place next a : ℕ) : Ty
   pub here : faultyAt d s at ≡ true
   pub earlier : (j : ℕ) → place ≤ j → j < at → faultyAt d s j ≡ false
   pub named : a ≡ d .first + at
+
+-- the segment as a record describes it to the listing program: a record has no ATO, which is 0
+abbrev pub recorded : Description → Description
+recorded d = described (d .kind) (d .block) (d .exponent) (d .first) (d .count) 0
 
 -- the listing of the segment has a line in state `guard` or `ref` for the block at a place: the one numbered `line`, counted from 0 behind
 -- the header (x is what getD gives past the end)
