@@ -17,6 +17,18 @@ pub struct Difference {
     pub got: Left,
 }
 
+impl Difference {
+    pub fn new(call: &Call, way: Way, sides: Sides, wanted: Left, got: Left) -> Box<Self> {
+        Box::new(Difference {
+            call: call.clone(),
+            way,
+            sides,
+            wanted,
+            got,
+        })
+    }
+}
+
 /// Who says what is wanted, and who has something else.
 #[derive(Clone, Debug, PartialEq, Eq)]
 pub enum Sides {
@@ -57,13 +69,8 @@ pub fn compare(
         let rooms = rooms.put(&call, way);
         let run = || run(library, &call, &left, rooms);
         if let Err(got) = watch::over(&call, way, run) {
-            return Err(Box::new(Difference {
-                call,
-                way,
-                sides: Sides::ReferenceAndLibrary,
-                wanted: left,
-                got,
-            }));
+            let sides = Sides::ReferenceAndLibrary;
+            return Err(Difference::new(&call, way, sides, left, got));
         }
     }
     rooms.clear();
@@ -138,16 +145,16 @@ impl fmt::Display for Difference {
         if let Sides::OneCallAndSeries(steps) = &self.sides {
             writeln!(f, "a series of {steps:X?} blocks")?;
         }
-        let [wanted, got] = self.sides.names();
-        writeln!(f, "{wanted}:")?;
+        let [wants, has] = self.sides.names();
+        writeln!(f, "{wants}:")?;
         self.wanted.show(&self.call, f)?;
-        writeln!(f, "{got}:")?;
+        writeln!(f, "{has}:")?;
         self.got.show(&self.call, f)?;
         for (number, (wanted, got)) in self.wanted.lent.iter().zip(&self.got.lent).enumerate() {
             if let Some(at) = wanted.iter().zip(got).position(|(a, b)| a != b) {
                 let (wanted, got) = (Hex(&wanted[at..]), Hex(&got[at..]));
                 writeln!(f, "lent {number} parts at byte {at}:")?;
-                writeln!(f, "  reference {wanted}\n  library   {got}")?;
+                writeln!(f, "  {wants:<9} {wanted}\n  {has:<9} {got}")?;
             }
         }
         Ok(())

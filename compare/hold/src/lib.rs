@@ -1,6 +1,6 @@
 //! Holds a library against the reference: both get the same calls, and what they
 //! hand back and leave, every lent byte and the bytes around them, must be equal.
-//! Series of scrubs are held against the library's own one call and listing.
+//! Series of scrubs are also held against the library's own one call and listing.
 
 pub mod call;
 mod command;

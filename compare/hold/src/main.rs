@@ -1,4 +1,5 @@
-//! Holds the archive against the reference on very many calls.
+//! Holds the archive against the reference on very many calls, and in series of scrubs
+//! against itself too.
 //!
 //! Exit status 1 if they part, an answer was not reached, or memory was touched that
 //! was not lent; 2 for arguments it does not know; 3 if its output cannot be written.

@@ -5,7 +5,8 @@ usage: hold [--seed NUMBER] [--count NUMBER]
 
 --seed NUMBER   where the random calls and the series of scrubs begin (1)
 --count NUMBER  how many random calls there are beside the systematic ones (500000);
-                there is a series for every twenty of them";
+                there is a series for every twenty of them, and some over one block
+                and over 65,536 in any case";
 
 #[derive(Debug, PartialEq, Eq)]
 pub struct Options {

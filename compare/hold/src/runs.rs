@@ -30,8 +30,8 @@ impl fmt::Display for Run {
     }
 }
 
-/// Where library and reference part: on which call of which run, counted from 0. Where
-/// the library parts from itself, it is the first call of the series.
+/// Where library and reference part, or the library from itself: on which call of which
+/// run, counted from 0. In a series it is the first call of the series.
 #[derive(Debug)]
 pub struct Parted {
     pub run: Run,
@@ -39,8 +39,8 @@ pub struct Parted {
     pub difference: Box<Difference>,
 }
 
-/// Every part of the systematic calls, so many random ones, and a series for every
-/// twenty of those.
+/// Every part of the systematic calls, so many random ones, a series for every twenty of
+/// those, and the series over one block and over as many as there may be.
 pub fn all(seed: u64, count: u64) -> Vec<Run> {
     let parts = PARTS.map(|(name, part)| Run::Part(name, part));
     let random = Run::Random { seed, count };

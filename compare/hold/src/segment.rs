@@ -304,6 +304,11 @@ pub fn any_good(numbers: &mut Numbers, bytes: u64) -> Description {
         0 => 1 + numbers.below(most),
         _ => 1 + numbers.below(most.min(5)),
     };
+    described_any(p, b, e, n, numbers)
+}
+
+/// A description with these sizes, within the limits: any first address and any ATO.
+pub fn described_any(p: u64, b: u64, e: u64, n: u64, numbers: &mut Numbers) -> Description {
     let last = (1 << 63) - n;
     let w = match numbers.below(8) {
         0 => 0,

@@ -6,7 +6,9 @@ use crate::compare::{Difference, compare};
 use crate::fence::Rooms;
 use crate::numbers::Numbers;
 use crate::report::Tally;
-use crate::{executes, formats, guards, listings, scrubs, series, stripes, watch};
+use crate::segment::SHAPES;
+use crate::series::Series;
+use crate::{executes, formats, guards, listings, scrubs, stripes, watch};
 
 /// Whether library and reference agreed.
 pub type Held = Result<(), Box<Difference>>;
@@ -78,15 +80,29 @@ impl<'a, L: Library> Trial<'a, L> {
         Ok(())
     }
 
-    /// Series of scrubs from a seed, held against the library itself.
+    /// Series of scrubs from a seed: so many over any segments, and some of each type
+    /// and exponent over one block and over as many as there may be. Each is held
+    /// against one call over all blocks, the listing and the reference.
     pub fn series(&mut self, seed: u64, count: u64) -> Held {
         let mut numbers = Numbers::new(seed);
         for _ in 0..count {
-            watch::input(self.tally.inputs());
-            let taken = series::any(self.library, &mut self.rooms, &mut numbers)?;
-            for (function, times) in [Function::Scrub, Function::List].into_iter().zip(taken) {
-                (0..times).for_each(|_| self.tally.note(function, None));
+            self.put_series(&Series::any(&mut numbers))?;
+        }
+        for (n, times) in [(1, 20), (65_536, 2)] {
+            for shape in SHAPES {
+                for _ in 0..times {
+                    self.put_series(&Series::of_count(n, shape, &mut numbers))?;
+                }
             }
+        }
+        Ok(())
+    }
+
+    fn put_series(&mut self, series: &Series) -> Held {
+        watch::input(self.tally.inputs());
+        let taken = series.hold(self.library, &mut self.rooms)?;
+        for (function, times) in [Function::Scrub, Function::List].into_iter().zip(taken) {
+            (0..times).for_each(|_| self.tally.note(function, None));
         }
         Ok(())
     }

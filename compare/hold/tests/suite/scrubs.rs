@@ -1,8 +1,9 @@
 //! Faults of a scrub. The systematic calls alone must find each, and the series those
-//! that a library's own numbers show.
+//! that a library's own numbers show and those that only the reference tells.
 
-use hold::call::Function;
+use hold::call::{Call, Function, Left};
 use hold::compare::{Difference, Sides};
+use hold::fence::Way;
 use hold::runs::{Run, side_by_side};
 use hold::scrubs;
 use hold::trial::{Part, Trial};
@@ -784,20 +785,35 @@ fn a_segment_that_is_written() {
     assert_ne!(difference.got.lent, difference.wanted.lent);
 }
 
-/// The difference that series find.
-fn found_by_series(fault: impl Fn(&Passing<'_>) -> u64) -> Box<Difference> {
+/// The difference that series find: so many over any segments, and those over one block
+/// and over as many as there may be.
+fn found_by_series_of(count: u64, fault: impl Fn(&Passing<'_>) -> u64) -> Box<Difference> {
     let library = Planted(|call: Passing<'_>| fault(&call));
-    let held = Trial::new(&library).series(1, 2_000);
+    let held = Trial::new(&library).series(1, count);
     held.expect_err("series do not find the fault")
 }
 
-/// Whether it is a series that parts from one call, not that from the listing.
-fn parts_in_series(difference: &Difference) -> bool {
-    match difference.sides {
-        Sides::OneCallAndSeries(_) => true,
-        Sides::ListingAndOneCall => false,
-        Sides::ReferenceAndLibrary => panic!("the reference has no part in series"),
+fn found_by_series(fault: impl Fn(&Passing<'_>) -> u64) -> Box<Difference> {
+    found_by_series_of(2_000, fault)
+}
+
+/// A library that lists intervals in one state as in another.
+fn listed_as(call: &Passing<'_>, state: &str, other: &str) -> u64 {
+    let length = call.honest();
+    if call.function != Function::List {
+        return length;
     }
+    let text = &call.bytes(1)[..length as usize];
+    let text = str::from_utf8(text).expect("letters");
+    let text = text.replace(&format!(" {state}\n"), &format!(" {other}\n"));
+    for (place, byte) in text.bytes().enumerate() {
+        call.write(1, place, byte);
+    }
+    text.len() as u64
+}
+
+fn parts_in_series(difference: &Difference) -> bool {
+    matches!(difference.sides, Sides::OneCallAndSeries(_))
 }
 
 #[test]
@@ -882,24 +898,132 @@ fn a_scrub_that_parts_from_the_listing() {
     ];
     for fault in faults {
         let difference = found_by_series(|call| through(call, &fault));
-        assert!(!parts_in_series(&difference), "{difference}");
+        assert_eq!(difference.sides, Sides::ListingAndOneCall, "{difference}");
     }
     // Or a listing that parts from it.
     for state in ["guard", "ref"] {
-        let difference = found_by_series(|call| {
-            let length = call.honest();
-            if call.function == Function::List {
-                let text = &call.bytes(1)[..length as usize];
-                let text = str::from_utf8(text).expect("letters");
-                let other = text.replace(state, "ok");
-                for (place, byte) in other.bytes().enumerate() {
-                    call.write(1, place, byte);
-                }
-            }
-            length
-        });
-        assert!(!parts_in_series(&difference), "{difference}");
+        let difference = found_by_series(|call| listed_as(call, state, "ok"));
+        assert_eq!(difference.sides, Sides::ListingAndOneCall, "{difference}");
     }
+}
+
+/// Whether a block counts as faulty.
+type Whether = fn(&Block<'_>) -> bool;
+
+#[test]
+fn a_library_at_one_with_itself_that_parts_from_the_reference() {
+    // No reference tag judged, and escaped blocks counted as faulty, by scrub and listing.
+    let faults: [(&str, &str, Whether); 2] = [
+        ("ref", "ok", |block| {
+            let wrong = block.intervals().any(|one| block.guard_is_wrong(&one));
+            wrong && !block.escaped()
+        }),
+        ("skipped", "guard", |block| {
+            block.escaped() || block.wrong() > 0
+        }),
+    ];
+    for (state, other, faulty) in faults {
+        let difference = found_by_series(|call| match call.function {
+            Function::List => listed_as(call, state, other),
+            _ => through(call, &|call, right| {
+                counted(call, right, |block| usize::from(faulty(block)))
+            }),
+        });
+        assert_eq!(difference.sides, Sides::ReferenceAndLibrary, "{difference}");
+    }
+    // A segment that every scrub writes.
+    let difference = found_by_series(|call| {
+        let answer = call.honest();
+        if call.function == Function::Scrub {
+            call.turn(0, 0);
+        }
+        answer
+    });
+    assert_eq!(difference.sides, Sides::ReferenceAndLibrary, "{difference}");
+}
+
+#[test]
+fn a_step_whose_fault_no_total_shows() {
+    let faults: [fn(&Passing<'_>); 3] = [
+        // A segment that is written.
+        |call| call.turn(0, 0),
+        // A number before the first place.
+        // SAFETY, here and below: the places stand between fences of a number each.
+        |call| unsafe { *call.places[0].sub(1) ^= 1 },
+        // An address where no fault is found.
+        |call| unsafe {
+            if *call.places[2] == 0 {
+                *call.places[3] = described(call).w + 1;
+            }
+        },
+    ];
+    for fault in faults {
+        let difference = found_by_series(|call| {
+            let answer = call.honest();
+            if call.function == Function::Scrub && asked(call).0 > 0 && asked(call).1 == 1 {
+                fault(call);
+            }
+            answer
+        });
+        assert_eq!(difference.sides, Sides::ReferenceAndLibrary, "{difference}");
+        assert_eq!(difference.call.numbers[7], 1, "{difference}");
+    }
+}
+
+/// The difference that series over one block and over as many as there may be find, if
+/// only segments of so many have the fault.
+fn found_by_series_over(n: u64, fault: Fault<'_>) -> Box<Difference> {
+    let difference = found_by_series_of(0, |call| {
+        through(call, &|call, right| match described(call).n {
+            count if count == n => fault(call, right),
+            _ => right,
+        })
+    });
+    assert_eq!(difference.call.numbers[4], n);
+    difference
+}
+
+#[test]
+fn a_series_over_one_block() {
+    // The block judged again at the end.
+    let again = found_by_series_over(1, &|call, right| match asked(call) {
+        (1, _) => Scrubbed { judged: 1, ..right },
+        _ => right,
+    });
+    assert!(parts_in_series(&again), "{again}");
+    // By a step of none already, and not again: the totals are the same.
+    let of_none = found_by_series_over(1, &|call, right| match asked(call) {
+        (place, 0) => asked_for(call, place, 1),
+        _ => right,
+    });
+    assert_eq!(of_none.sides, Sides::ReferenceAndLibrary, "{of_none}");
+}
+
+#[test]
+fn a_fault_in_the_second_half_of_the_most_blocks() {
+    let half = 32_768;
+    // The first block of a call passed over.
+    let passed_over = found_by_series_over(2 * half, &|call, right| {
+        let (place, _) = asked(call);
+        let first = described(call).w + place;
+        counted(call, right, |block| {
+            let passed_over = place >= half && block.address == first;
+            usize::from(block.wrong() > 0 && !passed_over)
+        })
+    });
+    let Sides::OneCallAndSeries(steps) = &passed_over.sides else {
+        panic!("{passed_over}")
+    };
+    assert!(steps.len() > 2, "{steps:?}");
+    assert_eq!(steps.iter().sum::<u64>(), 2 * half);
+    // No block judged, which no listing tells: no record holds so many.
+    let not_judged = found_by_series_over(2 * half, &|call, right| {
+        let from = described(call).w + half;
+        counted(call, right, |block| {
+            usize::from(block.wrong() > 0 && block.address < from)
+        })
+    });
+    assert_eq!(not_judged.sides, Sides::ReferenceAndLibrary, "{not_judged}");
 }
 
 #[test]
@@ -924,5 +1048,27 @@ fn a_run_of_series_ends_with_its_difference() {
         "series:\n",
     ] {
         assert!(shown.contains(line), "{shown}");
+    }
+}
+
+#[test]
+fn bytes_that_part_are_shown_by_the_names_of_the_sides() {
+    let sides = [
+        (Sides::ReferenceAndLibrary, ["reference", "library  "]),
+        (Sides::OneCallAndSeries(vec![1]), ["one call ", "series   "]),
+        (Sides::ListingAndOneCall, ["listing  ", "one call "]),
+    ];
+    let left = |byte| Left {
+        returned: 0,
+        places: Vec::new(),
+        lent: vec![vec![7, byte]],
+        trespassed: Vec::new(),
+    };
+    let call = Call::new(Function::Guard, &[], [&[7, 8]]);
+    for (sides, [wanted, got]) in sides {
+        let difference = Difference::new(&call, Way::BeforePage, sides, left(8), left(9));
+        let shown = difference.to_string();
+        let lines = format!("  {wanted} 1 bytes 08\n  {got} 1 bytes 09\n");
+        assert!(shown.contains(&lines), "{shown}");
     }
 }
