@@ -15,7 +15,7 @@ const BLOCKS: [(usize, u32); 6] = [(8, 0), (64, 0), (512, 0), (520, 3), (4_096, 
 const LIMIT: f64 = 1.25;
 
 /// A call for a single block of 8 bytes has the limit that commands have with such blocks:
-/// the copy of the table is as much of it as the block.
+/// the copy of the table is a quarter of it.
 const SMALLEST: usize = 8;
 const SMALLEST_LIMIT: f64 = 2.00;
 
