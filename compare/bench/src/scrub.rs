@@ -14,11 +14,6 @@ const BLOCKS: [(usize, u32); 6] = [(8, 0), (64, 0), (512, 0), (520, 3), (4_096, 
 
 const LIMIT: f64 = 1.25;
 
-/// A call for a single block of 8 bytes has the limit that commands have with such blocks:
-/// the copy of the table is a quarter of it.
-const SMALLEST: usize = 8;
-const SMALLEST_LIMIT: f64 = 2.00;
-
 /// The most blocks of a segment, so that a step of as many goes through any at once.
 const ALL: usize = 65_536;
 
@@ -88,16 +83,8 @@ impl Segment {
             let name = format!("{} {step:5}", self.name());
             let ours = self.pass(archive::scrub, step);
             let rust = self.pass(reference::scrub, step);
-            self.case(name, self.limit(step), [ours, rust])
+            self.case(name, LIMIT, [ours, rust])
         })
-    }
-
-    fn limit(&self, step: usize) -> f64 {
-        if step == 1 && self.desc.b as usize == SMALLEST {
-            SMALLEST_LIMIT
-        } else {
-            LIMIT
-        }
     }
 
     /// A line for what short steps take longer.
