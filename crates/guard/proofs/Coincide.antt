@@ -12,6 +12,8 @@ use Rattle.guard.proofs.table.Reads as table-reads
 use Rattle.guard.proofs.guard_through.Reads as guard-through-reads
 use Rattle.guard.proofs.copy_with_guard.Reads as copy-with-guard-reads
 use Rattle.guard.proofs.guard_by_table.Reads as guard-by-table-reads
+use Rattle.guard.proofs.rows.Reads as rows-reads
+use Rattle.guard.proofs.guard_through_rows.Reads as guard-through-rows-reads
 
 pub guard-by-division : (κs : _) (a : _) (x y : _) (s t : _) → guard-by-division-reads.Post κs a x s → guard-by-division-reads.Post κs a y t → x ≡ y
 guard-by-division κs a x y s t p q = p ∙ sym q
@@ -38,3 +40,10 @@ copy-with-guard κs a x y s t p q = (p .0 ∙ sym (q .0), p .1 ∙ sym (q .1))
 
 pub guard-by-table : (κs : _) (a : _) (x y : _) (s t : _) → guard-by-table-reads.Post κs a x s → guard-by-table-reads.Post κs a y t → x ≡ y
 guard-by-table κs a x y s t p q = p ∙ sym q
+
+-- x and y are arrays of 64 numbers
+pub rows : (κs : _) (a : _) (x y : _) (s t : _) → length x ≡ 64 → length y ≡ 64 → rows-reads.Post κs a x s → rows-reads.Post κs a y t → x ≡ y
+rows κs a x y s t l l′ p q = entries-same 64 x y l l′ (λ v h. p .entry v h ∙ sym (q .entry v h))
+
+pub guard-through-rows : (κs : _) (a : _) (x y : _) (s t : _) → guard-through-rows-reads.Post κs a x s → guard-through-rows-reads.Post κs a y t → x ≡ y
+guard-through-rows κs a x y s t p q = p ∙ sym q

@@ -1,3 +1,4 @@
 pub mod Guard
 pub mod Remainder
 pub mod Table
+pub mod Rows

@@ -21,7 +21,7 @@ use Rattle.judge.proofs.Named.{inTurn}
 abbrev pub SameTag : Rules → Place → Place → Type 0
 SameTag r p q = r .reference ≡ true → p .tag ≡ q .tag
 
-good-both : (a b : Answer) → isGood (orElse a b) ≡ (isGood a && isGood b)
+pub good-both : (a b : Answer) → isGood (orElse a b) ≡ (isGood a && isGood b)
 good-both a b = by (isGood a) refl
   where
     by : (g : Bool) → isGood a ≡ g → isGood (cond g b a) ≡ (g && isGood b)

@@ -19,7 +19,8 @@ use Rattle.segment.specs.Places.{placeRule}
 use Rattle.segment.proofs.Rules.{rules-segment}
 use Rattle.scrub.specs.declared.Found.{Found}
 use Rattle.scrub.specs.Scrub.{faultyAt, faultsFrom, firstFrom, coveredOf, Stepped, scrubRules, refused, scrubbed}
-use Rattle.scrub.specs.Onward.{RightBefore, withFault, withRight, past}
+use Rattle.scrub.specs.Onward.{withBlock}
+use Rattle.scrub.proofs.Judging.{fault-plain}
 
 -- ---- how many blocks a step covers
 module _ (d : Description) (place blocks : ℕ) where
@@ -39,54 +40,46 @@ module _ (d : Description) (place blocks : ℕ) where
       by true e = omega (arith, leb-true blocks (d .count - place) e)
       by false e = omega arith
 
--- ---- of the blocks from a place on, the first, and those behind it
-module _ (d : Description) (s : List ℕ) (at k : ℕ) where
-  pub faults-first : (b : Bool) → faultyAt d s at ≡ b → faultsFrom d s at (suc k) ≡ cond b 1 0 + faultsFrom d s (at + 1) k
+-- ---- of the blocks from a place on, the first and those behind it
+module _ (d : Description) (s : List ℕ) (place count judged : ℕ) (h : judged < count) where
+  left : count - judged ≡ suc (count - (judged + 1))
+  left = omega arith
+
+  faults-left : faultsFrom d s (place + judged) (count - judged)
+      ≡ cond (faultyAt d s (place + judged)) 1 0 + faultsFrom d s (place + (judged + 1)) (count - (judged + 1))
   unfolding faultsFrom
-  faults-first b e = rw e refl
+  faults-left = rw (left, ← add-assoc place judged 1) refl
 
-  pub first-first : (b : Bool) → faultyAt d s at ≡ b → firstFrom d s at (suc k) ≡ cond b (d .first + at) (firstFrom d s (at + 1) k)
+  first-left : firstFrom d s (place + judged) (count - judged)
+      ≡ cond (faultyAt d s (place + judged)) (d .first + (place + judged)) (firstFrom d s (place + (judged + 1)) (count - (judged + 1)))
   unfolding firstFrom
-  first-first b e = rw e refl
+  first-left = rw (left, ← add-assoc place judged 1) refl
 
--- right ones are passed over: what is found is found behind them
-module _ (d : Description) (s : List ℕ) where
-  abbrev AllRight : ℕ → ℕ → Type 0
-  AllRight at r = (j : ℕ) → j < r → faultyAt d s (at + j) ≡ false
+-- ---- type 0: none is found
+module _ (d : Description) (s : List ℕ) (plain : d .kind ≡ 0) where
+  faults-plain : (k at : ℕ) → faultsFrom d s at k ≡ 0
+  unfolding faultsFrom
+  faults-plain zero at = refl
+  faults-plain (suc k) at = rw (fault-plain d s at plain, faults-plain k (at + 1)) refl
 
-  right-one : (at r : ℕ) → AllRight at (suc r) → faultyAt d s at ≡ false
-  right-one at r right = rw add-zero at (right 0 (omega arith))
+  first-plain : (k at : ℕ) → firstFrom d s at k ≡ 0
+  unfolding firstFrom
+  first-plain zero at = refl
+  first-plain (suc k) at = rw (fault-plain d s at plain) (first-plain k (at + 1))
 
-  right-rest : (at r : ℕ) → AllRight at (suc r) → AllRight (at + 1) r
-  right-rest at r right j h = let on : at + suc j ≡ at + 1 + j = omega arith in rw on at (right (suc j) (omega arith))
-
-  faults-past : (r k at : ℕ) → r ≤ k → AllRight at r → faultsFrom d s at k ≡ faultsFrom d s (at + r) (k - r)
-  faults-past zero k at h right = let all : k - 0 ≡ k = omega arith in rw (add-zero at, all) refl
-  faults-past (suc r) zero at h right = absurd (omega arith)
-  faults-past (suc r) (suc k) at h right =
-      let on : at + suc r ≡ at + 1 + r = omega arith in
-      let left : suc k - suc r ≡ k - r = omega arith in
-      rw (on, left)
-      (faults-first d s at k false (right-one at r right) ∙ zero-add _ ∙ faults-past r k (at + 1) (omega arith) (right-rest at r right))
-
-  first-past : (r k at : ℕ) → r ≤ k → AllRight at r → firstFrom d s at k ≡ firstFrom d s (at + r) (k - r)
-  first-past zero k at h right = let all : k - 0 ≡ k = omega arith in rw (add-zero at, all) refl
-  first-past (suc r) zero at h right = absurd (omega arith)
-  first-past (suc r) (suc k) at h right =
-      let on : at + suc r ≡ at + 1 + r = omega arith in
-      let left : suc k - suc r ≡ k - r = omega arith in
-      rw (on, left)
-      (first-first d s at k false (right-one at r right) ∙ first-past r k (at + 1) (omega arith) (right-rest at r right))
+  pub stepped-plain : {place blocks count : ℕ} → count ≡ coveredOf d place blocks → Stepped d s place blocks count 0 0
+  stepped-plain {place} {blocks} {count} e =
+      record { judged = e; faults = sym (faults-plain count place); first = sym (first-plain count place) }
 
 -- ---- a step stands so: what has been found, with what is left, gives what all of its blocks give
-pub record Going (d : Description) (s : List ℕ) (place count : ℕ) (f : Found) : Type 0 where
-  pub fewer : f .judged ≤ count
-  pub most : f .faults ≤ f .judged
-  pub none : f .faults ≡ 0 → f .first ≡ 0
-  pub faults : f .faults + faultsFrom d s (place + f .judged) (count - f .judged) ≡ faultsFrom d s place count
-  pub first : cond (eqb (f .faults) 0) (firstFrom d s (place + f .judged) (count - f .judged)) (f .first) ≡ firstFrom d s place count
+pub record Going (d : Description) (s : List ℕ) (place count : ℕ) (found : Found) (judged : ℕ) : Type 0 where
+  pub fewer : judged ≤ count
+  pub most : found .faults ≤ judged
+  pub none : found .faults ≡ 0 → found .first ≡ 0
+  pub faults : found .faults + faultsFrom d s (place + judged) (count - judged) ≡ faultsFrom d s place count
+  pub first : cond (eqb (found .faults) 0) (firstFrom d s (place + judged) (count - judged)) (found .first) ≡ firstFrom d s place count
 
-pub begins : (d : Description) (s : List ℕ) (place count : ℕ) → Going d s place count (record { judged = 0; faults = 0; first = 0 })
+pub begins : (d : Description) (s : List ℕ) (place count : ℕ) → Going d s place count (record { faults = 0; first = 0 }) 0
 begins d s place count =
     let all : count - 0 ≡ count = omega arith in
     record {
@@ -97,98 +90,44 @@ begins d s place count =
       first = rw (add-zero place, all) refl;
     }
 
-module _ {d : Description} {s : List ℕ} {place count : ℕ} {f : Found} (g : Going d s place count f) where
-  module _ {r : ℕ} (w : RightBefore d s (place + f .judged) (count - f .judged) r) where
-    pub fits : f .judged + r ≤ count
-    fits = omega (arith, w .fewer, g .fewer)
-
-    -- behind the right blocks
-    abbrev behind : ℕ
-    behind = f .judged + r
-
-    left : count - f .judged - r ≡ count - behind
-    left = omega arith
-
-    faults-behind : faultsFrom d s (place + f .judged) (count - f .judged) ≡ faultsFrom d s (place + behind) (count - behind)
-    faults-behind =
-        faults-past d s r (count - f .judged) (place + f .judged) (w .fewer) (w .right) ∙ rw (left, add-assoc place (f .judged) r) refl
-
-    first-behind : firstFrom d s (place + f .judged) (count - f .judged) ≡ firstFrom d s (place + behind) (count - behind)
-    first-behind =
-        first-past d s r (count - f .judged) (place + f .judged) (w .fewer) (w .right) ∙ rw (left, add-assoc place (f .judged) r) refl
-
-    -- with them
-    right : Going d s place count (withRight f r)
-    right =
-        record {
-          fewer = fits;
-          most = omega (arith, g .most);
-          none = g .none;
-          faults = ap (λ (n : ℕ). f .faults + n) (sym faults-behind) ∙ g .faults;
-          first = ap (λ (n : ℕ). cond (eqb (f .faults) 0) n (f .first)) (sym first-behind) ∙ g .first;
-        }
-
-    -- the block behind them has a fault
-    more : (behind ≡ count → ⊥)
-        → Going d s place count (withFault (withRight f r) (d .first + place + behind))
-    more n =
-        let inside : r < count - f .judged = omega (arith, fits, n) in
-        let fault : faultyAt d s (place + behind) ≡ true = rw (← add-assoc place (f .judged) r) (w .fault inside) in
-        let one : count - behind ≡ suc (count - (behind + 1)) = omega arith in
-        let some : f .faults + 1 ≡ 0 → ⊥ = λ z. omega arith in
-        let found = rw (← one, add-assoc place behind 1) at (faults-first d s (place + behind) (count - (behind + 1)) true fault) in
-        let named = rw (← one) at (first-first d s (place + behind) (count - (behind + 1)) true fault) in
-        record {
-          fewer = omega arith;
-          most = omega (arith, g .most);
-          none = λ z. absurd (some z);
-          faults = omega (arith, g .faults, faults-behind, found);
-          first =
-              rw (ne-eqb (f .faults + 1) 0 some, add-assoc (d .first) place behind)
-              (ap (λ (n : ℕ). cond (eqb (f .faults) 0) n (f .first)) (sym (first-behind ∙ named)) ∙ g .first);
-        }
-
-    pub turn : Going d s place count (past f r count (d .first + place))
-    unfolding past
-    turn = by (eqb behind count) refl
-      where
-        by : (b : Bool) → eqb behind count ≡ b
-            → Going d s place count
-            (cond b (withRight f r)
-            (withFault (withRight f r) (d .first + place + behind)))
-        by true e = right
-        by false e = more (eqb-false behind count e)
-
-    -- and it has come further
-    pub further : f .judged < count → count - past f r count (d .first + place) .judged < count - f .judged
-    unfolding past
-    further h = by (eqb behind count) refl
-      where
-        by : (b : Bool) → eqb behind count ≡ b
-            → count - cond {A = Found} b (withRight f r)
-            (withFault (withRight f r) (d .first + place + behind)) .judged
-            < count - f .judged
-        by true e = omega (arith, eqb-true behind count e)
-        by false e = omega (arith, fits)
+module _ {d : Description} {s : List ℕ} {place count : ℕ} {found : Found} {judged : ℕ} (g : Going d s place count found judged) where
+  pub turn : judged < count → (b : Bool) → b ≡ faultyAt d s (place + judged) → Going d s place count (withBlock b (d .first + (place + judged)) found) (judged + 1)
+  turn h true e =
+      let more : found .faults + 1 ≡ 0 → ⊥ = λ z. omega arith in
+      record {
+        fewer = omega arith;
+        most = omega (arith, g .most);
+        none = λ z. absurd (omega arith);
+        faults = omega (arith, g .faults, rw (← e) at (faults-left d s place count judged h));
+        first =
+            rw (ne-eqb (found .faults + 1) 0 more)
+            (ap (λ (n : ℕ). cond (eqb (found .faults) 0) n (found .first)) (sym (rw (← e) at (first-left d s place count judged h))) ∙ g .first);
+      }
+  turn h false e =
+      record {
+        fewer = omega arith;
+        most = omega (arith, g .most);
+        none = g .none;
+        faults = omega (arith, g .faults, rw (← e) at (faults-left d s place count judged h));
+        first =
+            ap (λ (n : ℕ). cond (eqb (found .faults) 0) n (found .first)) (sym (rw (← e) at (first-left d s place count judged h))) ∙ g .first;
+      }
 
   -- nothing is left
-  pub ended : {blocks : ℕ} → count ≤ f .judged → count ≡ coveredOf d place blocks → Stepped d s place blocks (f .judged) (f .faults) (f .first)
+  pub ended : {blocks : ℕ} → count ≤ judged → count ≡ coveredOf d place blocks → Stepped d s place blocks judged (found .faults) (found .first)
   unfolding faultsFrom firstFrom
   ended {blocks} h e =
-      let all : f .judged ≡ count = omega (arith, g .fewer) in
-      let none : count - f .judged ≡ 0 = omega arith in
+      let all : judged ≡ count = omega (arith, g .fewer) in
+      let last : count - judged ≡ 0 = omega arith in
       record {
         judged = all ∙ e;
-        faults = sum (rw none at (g .faults)) ∙ ap (faultsFrom d s place) (sym all);
-        first = by (eqb (f .faults) 0) refl (rw none at (g .first)) ∙ ap (firstFrom d s place) (sym all);
+        faults = rw all (omega (arith, rw last at (g .faults)));
+        first = rw all (by (eqb (found .faults) 0) refl (rw last at (g .first)));
       }
     where
-      sum : f .faults + 0 ≡ faultsFrom d s place count → f .faults ≡ faultsFrom d s place count
-      sum e = sym (add-zero (f .faults)) ∙ e
-
-      by : (b : Bool) → eqb (f .faults) 0 ≡ b → cond b 0 (f .first) ≡ firstFrom d s place count → f .first ≡ firstFrom d s place count
-      by true e w = g .none (eqb-true _ _ e) ∙ w
-      by false e w = w
+      by : (b : Bool) → eqb (found .faults) 0 ≡ b → cond b 0 (found .first) ≡ firstFrom d s place count → found .first ≡ firstFrom d s place count
+      by true e f = g .none (eqb-true _ _ e) ∙ f
+      by false e f = f
 
 -- ---- a call: what its rules say, where they do not refuse
 pub in-order : (d : Description) (n place : ℕ) → isGood (scrubRules d n place) ≡ true → Segment d × (lengthOf d ≡ n) × (place ≤ d .count)

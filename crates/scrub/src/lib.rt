@@ -2,19 +2,25 @@
 ghost use mathlib.Core.Path.{_≡_};
 ghost use Prim.Native.Nat.{_+_, _≤_, _<_, _^_};
 ghost use lib.ListN.{length};
-ghost use Rattle.guard.specs.Table.{Right};
+ghost use mathlib.Core.Bool.{true, false, not};
+ghost use Rattle.guard.specs.Rows.{RightRows};
+ghost use Rattle.answer.specs.Answer.{isGood};
 ghost use Rattle.segment.specs.Segment.{Segment, lengthOf};
+ghost use Rattle.interval.specs.Interval.{judgePieces};
+ghost use Rattle.judge.specs.Judge.{judgeIntervals, judgeBlock, Stretch};
+ghost use Rattle.rules.specs.Intervals.{placeAt};
+ghost use Rattle.rules.specs.ReadAll.{readAll};
 ghost use Rattle.scrub.specs.Scrub.{coveredOf, Stepped, scrubRules, refused, scrubbed};
-ghost use Rattle.scrub.specs.Onward.{Within, judgedFrom, RightBefore, withFault, past};
+ghost use Rattle.scrub.specs.Onward.{Looked, withBlock};
 use answer::Answer;
 use command::Operation;
+use interval::Place;
+use interval::Rules;
 use segment::Description;
 use sides::Side;
 
-// Where a step stands: the blocks judged so far, those of them that have a fault, and the address of the first of these; 0 where
-// none has.
+// The blocks with a fault so far, and the address of the first of them; 0 where there is none.
 pub struct Found {
-    pub judged: u64,
     pub faults: u64,
     pub first: u64,
 }
@@ -29,68 +35,75 @@ pub struct Scrubbed {
     pub first: u64,
 }
 
-// The first wrong interval of `count` blocks from a place on: what a 16-byte READ of them with code 001 would find. The type rules
-// are not applied: in type 2 such a command itself would be answered 5.
-fn judge_from(t: &[u16; 256], d: Description, s: &[u8], at: u64, count: u64) -> Answer
-    requires { ⌜ Right (now t) ⌝ }
-    requires { ⌜ Within d (now s) at count ⌝ }
-    ensures { λ a. ⌜ a ≡ judgedFrom d (now (s .entry)) at count ⌝ }
+// Whether an interval, as two pieces, is wrong: its guard is, or its reference tag where that is checked.
+fn wrong_pieces(w: &[u16; 64], r: Rules, p: Place, data: &[u8], field: &[u8]) -> bool
+    requires { ⌜ RightRows (now w) ⌝ }
+    requires { ⌜ (length (now field) ≡ 8) × (r .guard ≡ true) × (r .application ≡ false) ⌝ }
+    ensures { λ x. ⌜ x ≡ not (isGood (judgePieces r p (now («data» .entry)) (now (field .entry)))) ⌝ }
 {
-    let address = d.first + at;
-    let i = segment::offset(d, address);
-    let end = i + segment::span(d, count);
-    let c = command::sixteen(Operation::Read, address, count);
-    transfer::judge_on(t, Side::Stored, d, c, &s[i..end])
-}
-
-// How many of `count` blocks from a place on are right before the first that has a fault; all of them where none has.
-fn right_before(t: &[u16; 256], d: Description, s: &[u8], at: u64, count: u64) -> u64
-    requires { ⌜ Right (now t) ⌝ }
-    requires { ⌜ Within d (now s) at count ⌝ }
-    ensures { λ r. ⌜ RightBefore d (now (s .entry)) at count r ⌝ }
-{
-    let a = judge_from(t, d, s, at, count);
-    if answer::is_good(a) {
-        return count;
+    if field::stored_guard(field) != guard::guard_through_rows(w, data) {
+        return true;
     }
-    answer::address(a) - (d.first + at)
+    if r.reference {
+        return field::stored_reference(field) != p.tag;
+    }
+    false
 }
 
-// One block more, which has a fault: the first such is named.
-fn with_fault(f: Found, address: u64) -> Found
-    requires { ⌜ (f .judged < 65536) × (f .faults ≤ f .judged) ⌝ }
-    ensures { λ x. ⌜ x ≡ withFault f address ⌝ }
+// Whether the block at a place, `s`, has a fault: an interval of it is wrong, and none has the escape.
+fn faulty_intervals(w: &[u16; 64], r: Rules, p: Place, s: &[u8]) -> bool
+    requires { ⌜ RightRows (now w) ⌝ }
+    requires { ⌜ (Stretch r (r .intervals) p (now s)) × (r .guard ≡ true) × (r .application ≡ false) ⌝ }
+    ensures { λ x. ⌜ x ≡ not (isGood (judgeBlock r p (now (s .entry)))) ⌝ }
 {
+    let size = r.size;
+    let escape = r.escape;
+    let mut left = r.intervals;
+    let mut here = p;
+    let mut wrong = false;
+    let mut i: usize = 0;
+    while 0 < left {
+        let m = i + size;
+        let end = m + 8;
+        if interval::escapes(escape, &s[m..end]) {
+            return false;
+        }
+        wrong = words::either(wrong, wrong_pieces(w, r, here, &s[i..m], &s[m..end]));
+        here = judge::next_interval(here);
+        i = end;
+        left -= 1;
+    }
+    wrong
+}
+
+// Whether the block at a place, `s`, has a fault.
+fn faulty_block(w: &[u16; 64], r: Rules, d: Description, at: u64, s: &[u8]) -> bool
+    requires { ⌜ RightRows (now w) ⌝ }
+    requires { ⌜ Looked r d at (length (now s)) ⌝ }
+    ensures { λ x. ⌜ x ≡ not (isGood (judgeBlock r (placeAt d (readAll d) at 0) (now (s .entry)))) ⌝ }
+{
+    let p = rules::start(d, command::sixteen(Operation::Read, d.first + at, 1));
+    faulty_intervals(w, r, p, s)
+}
+
+// What has been found with one block more, of this address.
+fn with_block(faulty: bool, address: u64, f: Found) -> Found
+    requires { ⌜ f .faults < 65536 ⌝ }
+    ensures { λ x. ⌜ x ≡ withBlock faulty address f ⌝ }
+{
+    if !faulty {
+        return f;
+    }
     if f.faults == 0 {
         return Found {
-            judged: f.judged + 1,
             faults: 1,
             first: address,
         };
     }
     Found {
-        judged: f.judged + 1,
         faults: f.faults + 1,
         first: f.first,
     }
-}
-
-// So many right blocks more and, if they are not the last of the step's `count`, the one with a fault behind them. `from` is the
-// address of the step's first block.
-fn past(found: Found, right: u64, count: u64, from: u64) -> Found
-    requires { ⌜ (found .judged + right ≤ count) × (found .faults ≤ found .judged) × (count ≤ 65536) × (from + count ≤ 2 ^ 63) ⌝ }
-    ensures { λ x. ⌜ x ≡ past found right count from ⌝ }
-{
-    let judged = found.judged + right;
-    let f = Found {
-        judged,
-        faults: found.faults,
-        first: found.first,
-    };
-    if judged == count {
-        return f;
-    }
-    with_fault(f, from + judged)
 }
 
 // The smaller of a number of blocks and those left from a place on.
@@ -105,9 +118,9 @@ fn covered(d: Description, place: u64, blocks: u64) -> u64
     left
 }
 
-// A step from a place over a number of blocks: returns the count of those that it judged.
+// A step from a place over a number of blocks: returns the count of those that it judged. Type 0 has no fault.
 pub fn step(
-    t: &[u16; 256],
+    w: &[u16; 64],
     d: Description,
     s: &[u8],
     place: u64,
@@ -115,26 +128,38 @@ pub fn step(
     faults: &mut u64,
     first: &mut u64,
 ) -> u64
-    requires { ⌜ Right (now t) ⌝ }
+    requires { ⌜ RightRows (now w) ⌝ }
     requires { ⌜ (Segment d) × (lengthOf d ≡ length (now s)) × (place ≤ d .count) ⌝ }
     ensures { λ r. ⌜ Stepped d (now (s .entry)) place blocks r (now (faults .exit)) (now (first .exit)) ⌝ }
 {
     let count = covered(d, place, blocks);
-    let from = d.first + place;
+    *faults = 0;
+    *first = 0;
+    if d.kind == 0 {
+        return count;
+    }
+    let size = segment::stored(d);
+    let r = rules::rules(
+        Side::Stored,
+        d,
+        command::sixteen(Operation::Read, d.first, d.count),
+    );
     let mut found = Found {
-        judged: 0,
         faults: 0,
         first: 0,
     };
-    while found.judged < count {
-        let at = place + found.judged;
-        let left = count - found.judged;
-        let right = right_before(t, d, s, at, left);
-        found = past(found, right, count, from);
+    let mut judged: u64 = 0;
+    while judged < count {
+        let at = place + judged;
+        let i = at as usize * size;
+        let end = i + size;
+        let faulty = faulty_block(w, r, d, at, &s[i..end]);
+        found = with_block(faulty, d.first + at, found);
+        judged += 1;
     }
     *faults = found.faults;
     *first = found.first;
-    found.judged
+    judged
 }
 
 // Refusals 1, 2 and 7.
@@ -169,10 +194,10 @@ pub fn scrub(d: Description, s: &[u8], place: u64, blocks: u64) -> Scrubbed
     if !answer::is_good(a) {
         return refused(a, place);
     }
-    let t = guard::table();
+    let w = guard::rows();
     let mut faults: u64 = 0;
     let mut first: u64 = 0;
-    let judged = step(&t, d, s, place, blocks, &mut faults, &mut first);
+    let judged = step(&w, d, s, place, blocks, &mut faults, &mut first);
     let next = place + judged;
     Scrubbed {
         answer: a,

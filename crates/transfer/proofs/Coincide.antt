@@ -3,14 +3,10 @@
 -- Assumes nothing.
 use mathlib.Core.Path.{_≡_, sym, _∙_}
 use denote.Ref.{now}
-use Rattle.transfer.proofs.judge_on.Reads as judge-on-reads
 use Rattle.transfer.proofs.judge.Reads as judge-reads
 use Rattle.transfer.proofs.verdict.Reads as verdict-reads
 use Rattle.transfer.proofs.hand_out.Reads as hand-out-reads
 use Rattle.transfer.proofs.store.Reads as store-reads
-
-pub judge-on : (κs : _) (a : _) (x y : _) (s t : _) → judge-on-reads.Post κs a x s → judge-on-reads.Post κs a y t → x ≡ y
-judge-on κs a x y s t p q = p ∙ sym q
 
 pub judge : (κs : _) (a : _) (x y : _) (s t : _) → judge-reads.Post κs a x s → judge-reads.Post κs a y t → x ≡ y
 judge κs a x y s t p q = p ∙ sym q

@@ -22,7 +22,7 @@ fn whole(d: Description, c: Command) -> bool
 }
 
 // The first wrong interval of the blocks `s` of one side.
-pub fn judge_on(t: &[u16; 256], side: Side, d: Description, c: Command, s: &[u8]) -> Answer
+fn judge_on(t: &[u16; 256], side: Side, d: Description, c: Command, s: &[u8]) -> Answer
     requires { ⌜ Right (now t) ⌝ }
     requires { ⌜ Shaped d c ⌝ }
     requires { ⌜ Sided side d c (length (now s)) ⌝ }

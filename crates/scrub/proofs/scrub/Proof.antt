@@ -16,7 +16,7 @@ step-requires : tie.Need-step-requires
 step-requires c κs =
     let on = c .before .before .before .before in
     let args = on .before .before .before .before .args in
-    (c .before .before .before .table .ensures, call-fits _ (args .s .now) _ (args .blocks) _ _ (on .before .before .scrub-rules .ensures) (on .before .is-good .ensures) (on .if1 .left))
+    (c .before .before .before .rows .ensures, call-fits _ (args .s .now) _ (args .blocks) _ _ (on .before .before .scrub-rules .ensures) (on .before .is-good .ensures) (on .if1 .left))
 
 add-next : tie.Need-add-next
 add-next c =

@@ -1,68 +1,127 @@
 -- `scrub::step`: what has been found, with the blocks that are left, gives what all of them give.
 -- Assumes nothing.
-use mathlib.Core.Path.{_≡_}
+use mathlib.Core.Path.{_≡_, sym, ap, _∙_}
+use mathlib.Core.Bool.{Bool, not}
 use mathlib.Core.List.{List}
-use Prim.Native.Nat.{ℕ, _+_, _-_, _^_, _≤_}
+use Prim.Native.Nat.{ℕ, _+_, _*_, _-_, _^_, _≤_, _<_}
 use native.Mathlib.Omega.{arith}
-use lib.ListN.{length}
+use lib.ListN.{length, take, drop, length-drop}
+use lib.Seq.{length-take-le}
+use Rattle.words.proofs.Parts.{part-at}
+use Rattle.answer.specs.Answer.{isGood}
 use Rattle.segment.specs.declared.Description.{Description}
-use Rattle.segment.specs.Segment.{Segment, lengthOf}
-use Rattle.scrub.specs.declared.Found.{Found}
-use Rattle.scrub.specs.Scrub.{coveredOf}
-use Rattle.scrub.specs.Onward.{Within}
-use Rattle.scrub.proofs.Laws.{covered-most, Going, begins, fits, turn, further, ended}
+use Rattle.segment.specs.Segment.{Segment, storedOf, lengthOf}
+use Rattle.command.specs.declared.Command.{Command}
+use Rattle.interval.specs.declared.Rules.{Rules}
+use Rattle.judge.specs.Judge.{judgeBlock}
+use Rattle.sides.specs.declared.Side.the-variants.{Stored}
+use Rattle.rules.specs.Rules.{rulesOf}
+use Rattle.rules.specs.Intervals.{placeAt}
+use Rattle.rules.specs.ReadAll.{readAll}
+use Rattle.scrub.specs.Scrub.{faultyAt, coveredOf}
+use Rattle.scrub.specs.Onward.{Looked}
+use Rattle.scrub.proofs.Judging.{fault-cut, block-few, block-within}
+use Rattle.scrub.proofs.Laws.{covered-most, stepped-plain, Going, begins, turn, ended}
 use borrow.Author.Needs.{needs}
 use Rattle.scrub.proofs.step.Statement.{statement}
 use Rattle.scrub.proofs.step.Tie as tie
 
 abbrev Inv-loop : tie.InvT-loop
-Inv-loop t d s place blocks faults first count from found₀ found = Going d s place count found
+Inv-loop w d s place blocks faults first count size r found₀ judged₀ found judged = Going d s place count found judged
 
 abbrev μ-loop : tie.MeasureT-loop
-μ-loop t d s place blocks faults first count from found₀ found = count - found .judged
+μ-loop w d s place blocks faults first count size r found₀ judged₀ found judged = count - judged
 
--- the blocks that are left lie in the segment
-module _ (d : Description) (s : List ℕ) (place blocks : ℕ) {count : ℕ} (g : Segment d) (long : lengthOf d ≡ length s) (p : place ≤ d .count) (e : count ≡ coveredOf d place blocks) where
-  few : (count ≤ 65536) × (d .first + place + count ≤ 2 ^ 63)
-  few = let end = covered-most d place blocks p in (omega (arith, g .count), omega (arith, g .end))
+-- the block that a turn looks at lies in the segment
+record Here (d : Description) (s : List ℕ) (size at : ℕ) : Type 0 where
+  inside : at < d .count
+  few : at * size + size ≤ 65536 * 4160
+  within : at * size + size ≤ length s
+  most : d .count ≤ 65536
+  end : d .first + d .count ≤ 2 ^ 63
 
-  here : {f : Found} → Going d s place count f → Within d s (place + f .judged) (count - f .judged)
-  here {f} w = record { segment = g; long = long; end = omega (arith, covered-most d place blocks p, w .fewer) }
+here-is : (d : Description) (s : List ℕ) (place blocks judged : ℕ) {count size : ℕ} → Segment d → lengthOf d ≡ length s → place ≤ d .count
+    → count ≡ coveredOf d place blocks → size ≡ storedOf d → judged < count → Here d s size (place + judged)
+here-is d s place blocks judged g long p e z h =
+    let inside : place + judged < d .count = omega (arith, covered-most d place blocks p) in
+    rw z
+    (record {
+      inside = inside;
+      few = block-few d g (place + judged) inside;
+      within = block-within d g (place + judged) inside s long;
+      most = g .count;
+      end = g .end;
+    })
+
+here : (c : tie.In-loop Inv-loop μ-loop)
+    → let start = c .before .before .before .before .before .before .before .before .before in
+    Here (start .args .d) (start .args .s .now) (c .before .before .before .before .stored .result) (start .args .place + c .before .loop .judged)
+here c =
+    let on = c .before .before .before .before in
+    let start = on .before .before .before .before .before in
+    here-is _ _ _ (start .args .blocks) _ (start .pre .1 .0) (start .pre .1 .1) (start .pre .1 .2) (on .before .before .before .covered .ensures) (on .stored .ensures) (c .loop-test .taken)
+
+-- what is cut out for it
+cut : (s : List ℕ) (i : ℕ) {size stored : ℕ} → size ≡ stored → i + size ≤ length s → length (take (i + size - i) (drop i s)) ≡ stored
+cut s i {size} e h = rw (part-at i size s) (length-take-le size (drop i s) (rw length-drop (omega arith)) ∙ e)
+
+asked : (d : Description) {c : Command} {r : Rules} → c ≡ readAll d → r ≡ rulesOf Stored d c → r ≡ rulesOf Stored d (readAll d)
+asked d ec er = er ∙ ap (rulesOf Stored d) ec
+
+looked : (d : Description) (s : List ℕ) (at : ℕ) {size : ℕ} {r : Rules} {b : Bool} → Segment d → (d .kind ≡ 0 → ⊥) → size ≡ storedOf d → r ≡ rulesOf Stored d (readAll d)
+    → b ≡ not (isGood (judgeBlock r (placeAt d (readAll d) at 0) (take (at * size + size - at * size) (drop (at * size) s)))) → b ≡ faultyAt d s at
+looked d s at {size} g n z er e =
+    e ∙ rw (part-at (at * size) size s, er, z) (sym (fault-cut d g s at n))
+
+returns : tie.Need-returns Inv-loop μ-loop
+returns c = let start = c .before .before .before .before in stepped-plain _ _ (c .if1 .taken) (c .before .before .covered .ensures)
 
 add-at : tie.Need-add-at Inv-loop μ-loop
-add-at c =
-    let on = c .before .before .before in
-    let start = on .before .before .before .before in
-    omega (arith, here _ _ _ (start .args .blocks) (start .pre .1 .0) (start .pre .1 .1) (start .pre .1 .2) (on .before .before .covered .ensures) (on .loop .inv) .end, start .pre .1 .0 .count)
+add-at c = omega (arith, here c .inside, here c .most)
 
-sub-left : tie.Need-sub-left Inv-loop μ-loop
-sub-left c = c .before .before .before .before .loop .inv .fewer
+mul-i : tie.Need-mul-i Inv-loop μ-loop
+mul-i c = omega (arith, here c .few)
 
-right-before-requires : tie.Need-right-before-requires Inv-loop μ-loop
-right-before-requires c κs =
-    let on = c .before .before .before .before in
-    let start = on .before .before .before .before in
-    (start .pre .0, here _ _ _ (start .args .blocks) (start .pre .1 .0) (start .pre .1 .1) (start .pre .1 .2) (on .before .before .covered .ensures) (on .loop .inv))
+add-end : tie.Need-add-end Inv-loop μ-loop
+add-end c = omega (arith, here c .few)
 
-past-requires : tie.Need-past-requires Inv-loop μ-loop
-past-requires c κs =
-    let on = c .before .before .before .before .before in
-    let start = on .before .before .before .before in
-    let room = few _ (start .args .s .now) _ (start .args .blocks) (start .pre .1 .0) (start .pre .1 .1) (start .pre .1 .2) (on .before .before .covered .ensures) in
-    (fits (on .loop .inv) (c .right-before .ensures), on .loop .inv .most, room .0, room .1)
+part-faulty-block-end : tie.Need-part-faulty-block-end Inv-loop μ-loop
+part-faulty-block-end c = here c .within
 
-loop-less : tie.Need-loop-less Inv-loop μ-loop
-loop-less c =
-    let on = c .before .before .before .before .before .before in
-    rw (c .past .ensures) (further (on .loop .inv) (c .before .right-before .ensures) (c .before .before .before .before .if1 .taken))
+faulty-block-requires : tie.Need-faulty-block-requires Inv-loop μ-loop
+faulty-block-requires c κs =
+    let in-loop = c .before in
+    let on = in-loop .before .before .before .before in
+    let start = on .before .before .before .before .before in (
+      start .pre .0,
+      record {
+        segment = start .pre .1 .0;
+        fields = on .before .if1 .left;
+        inside = here in-loop .inside;
+        whole = cut _ _ (on .stored .ensures) (here in-loop .within);
+        rules = asked _ (in-loop .before .before .before .sixteen .ensures) (in-loop .before .before .rules .ensures);
+      },
+    )
+
+add-with-block : tie.Need-add-with-block Inv-loop μ-loop
+add-with-block c = let in-loop = c .before .before .before in omega (arith, here in-loop .inside, here in-loop .end)
+
+with-block-requires : tie.Need-with-block-requires Inv-loop μ-loop
+with-block-requires c κs =
+    let in-loop = c .before .before .before in
+    omega (arith, in-loop .before .loop .inv .most, in-loop .loop-test .taken, here in-loop .inside, here in-loop .most)
 
 loop-again : tie.Need-loop-again Inv-loop μ-loop
 loop-again c =
-    let on = c .before .before .before .before .before .before in
-    rw (c .past .ensures) (turn (on .loop .inv) (c .before .right-before .ensures))
+    let in-loop = c .before .before .before .before in
+    let on = in-loop .before .before .before .before in
+    let start = on .before .before .before .before .before in
+    rw (c .with-block .ensures)
+    (turn (in-loop .before .loop .inv) (in-loop .loop-test .taken) _
+    (looked _ _ _ (start .pre .1 .0) (on .before .if1 .left) (on .stored .ensures) (asked _ (in-loop .before .before .before .sixteen .ensures) (in-loop .before .before .rules .ensures)) (c .before .before .faulty-block .ensures)))
 
-returns : tie.Need-returns Inv-loop μ-loop
-returns c = ended (c .before .before .loop .inv) (c .if1 .left) (c .before .before .before .before .covered .ensures)
+returns-2 : tie.Need-returns-2 Inv-loop μ-loop
+returns-2 c = let on = c .before .before .before .before .before .before .before in ended (c .before .loop .inv) (c .loop-test .left) (on .covered .ensures)
 
 pub step-spec : {M : Type 1} → statement M
 step-spec =
@@ -70,12 +129,18 @@ step-spec =
     (tie.spec
     Inv-loop
     μ-loop
-    (λ c κs. search needs) (λ c. search needs)
+    (λ c κs. search needs)
+    returns
+    (λ c κs. search needs) (λ c κs. search needs) (λ c κs. search needs)
     (λ c. begins _ _ _ _)
     add-at
-    sub-left
-    right-before-requires
-    past-requires
-    loop-less
+    mul-i
+    add-end
+    (λ c. search needs) (λ c. search needs)
+    part-faulty-block-end
+    faulty-block-requires
+    add-with-block
+    with-block-requires
+    (λ c. search needs) (λ c. search needs)
     loop-again
-    returns)
+    returns-2)

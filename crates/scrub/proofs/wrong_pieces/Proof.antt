@@ -1,0 +1,78 @@
+-- `scrub::wrong_pieces`: where the guard is checked and the application tag is not, the guard and the reference tag decide.
+-- Assumes nothing.
+use mathlib.Core.Path.{_≡_, refl, sym, ap, _∙_}
+use mathlib.Core.Bool.{Bool, true, false, not, _&&_, _||_, cond, true≢false}
+use mathlib.Core.List.{List}
+use Prim.Native.Nat.{ℕ}
+use lib.Dec.{eqb}
+use borrow.Author.Tests.{eq-eqb, ne-eqb}
+use Rattle.guard.specs.Guard.{guard}
+use Rattle.field.specs.Field.{storedGuard, storedReference}
+use Rattle.answer.specs.Answer.{isGood}
+use Rattle.answer.specs.declared.Answer.the-variants as answers
+use Rattle.answer.specs.declared.Field.the-variants as fields
+use Rattle.interval.specs.declared.Rules.{Rules}
+use Rattle.interval.specs.declared.Place.{Place}
+use Rattle.interval.specs.Interval.{guardWrong, applicationWrong, referenceWrong, judgePieces}
+use borrow.Author.Needs.{needs}
+use Rattle.scrub.proofs.wrong_pieces.Statement.{statement}
+use Rattle.scrub.proofs.wrong_pieces.Tie as tie
+
+decides : (g a x y z : Bool) (m n : ℕ) → g ≡ true → a ≡ false
+    → not (isGood (cond (g && x) (answers.Wrong fields.Guard m n) (cond (a && y) (answers.Wrong fields.Application m n) (cond z (answers.Wrong fields.Reference m n) answers.Good))))
+    ≡ x || z
+decides false a x y z m n e o = absurd (true≢false (sym e))
+decides true true x y z m n e o = absurd (true≢false o)
+decides true false true y z m n e o = refl
+decides true false false y true m n e o = refl
+decides true false false y false m n e o = refl
+
+module _ (r : Rules) (p : Place) (d f : List ℕ) (g : r .guard ≡ true) (a : r .application ≡ false) where
+  abbrev wrong : Bool
+  wrong = not (isGood (judgePieces r p d f))
+
+  by-both : wrong ≡ not (eqb (storedGuard f) (guard d)) || (r .reference && not (eqb (storedReference f) (p .tag)))
+  unfolding judgePieces guardWrong applicationWrong referenceWrong
+  by-both = decides (r .guard) (r .application) _ _ _ (p .address) (p .interval) g a
+
+  module _ {x y : ℕ} (ex : x ≡ storedGuard f) (ey : y ≡ guard d) where
+    by-guard : (x ≡ y → ⊥) → true ≡ wrong
+    by-guard n = sym (by-both ∙ rw (ne-eqb (storedGuard f) (guard d) (λ e. n (ex ∙ e ∙ sym ey))) refl)
+
+    by-reference : x ≡ y → wrong ≡ (r .reference && not (eqb (storedReference f) (p .tag)))
+    by-reference e = by-both ∙ rw (eq-eqb (storedGuard f) (guard d) (sym ex ∙ e ∙ ey)) refl
+
+    checked : {z : ℕ} → x ≡ y → r .reference ≡ true → z ≡ storedReference f → not (eqb z (p .tag)) ≡ wrong
+    checked e on ez = ap (λ (n : ℕ). not (eqb n (p .tag))) ez ∙ ap (λ (b : Bool). b && not (eqb (storedReference f) (p .tag))) (sym on) ∙ sym (by-reference e)
+
+    free : x ≡ y → r .reference ≡ false → false ≡ wrong
+    free e off = ap (λ (b : Bool). b && not (eqb (storedReference f) (p .tag))) (sym off) ∙ sym (by-reference e)
+
+returns : tie.Need-returns
+returns c =
+    let on = c .before .before in
+    let pre = on .before .before .before .pre .1 in
+    by-guard _ _ _ _ (pre .1) (pre .2) (on .stored-guard .ensures) (c .before .guard-through-rows .ensures) (c .if1 .taken)
+
+returns-2 : tie.Need-returns-2
+returns-2 c =
+    let on = c .before .before .before .before .before in
+    let pre = on .before .before .before .pre .1 in
+    checked _ _ _ _ (pre .1) (pre .2) (on .stored-guard .ensures) (c .before .before .before .before .guard-through-rows .ensures) (c .before .before .before .if1 .left)
+    (c .before .before .if2 .taken) (c .before .stored-reference .ensures)
+
+returns-3 : tie.Need-returns-3
+returns-3 c =
+    let on = c .before .before .before in
+    let pre = on .before .before .before .pre .1 in
+    free _ _ _ _ (pre .1) (pre .2) (on .stored-guard .ensures) (c .before .before .guard-through-rows .ensures) (c .before .if1 .left) (c .if2 .left)
+
+pub wrong-pieces-spec : {M : Type 1} → statement M
+wrong-pieces-spec =
+    tie.close
+    (tie.spec
+    (λ c κs. search needs) (λ c κs. search needs)
+    returns
+    (λ c κs. search needs)
+    returns-2
+    returns-3)
