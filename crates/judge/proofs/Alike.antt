@@ -9,13 +9,19 @@ use lib.ListN.{drop}
 use Rattle.answer.specs.Answer.{isGood, orElse}
 use Rattle.answer.specs.declared.Answer.{Answer}
 use Rattle.answer.specs.declared.Answer.the-variants as answers
+use Rattle.answer.specs.declared.Field.the-variants as fields
 use Rattle.field.specs.Field.{dataOf, fieldOf, storedReference}
 use Rattle.interval.specs.declared.Rules.{Rules}
 use Rattle.interval.specs.declared.Place.{Place}
 use Rattle.interval.specs.Interval.{anyEscapes, guardWrong, applicationWrong, referenceWrong, judgePieces, judgeInterval}
 use Rattle.judge.specs.FirstOf.{firstOf}
 use Rattle.judge.specs.Judge.{judgeIntervals, judgeBlock, nextInterval}
-use Rattle.judge.proofs.Named.{inTurn}
+
+-- "in one interval guard, application, reference": what is answered where these are wrong
+abbrev pub inTurn : Place → Bool → Bool → Bool → Answer
+inTurn p g a f =
+    cond g (answers.Wrong fields.Guard (p .address) (p .interval))
+    (cond a (answers.Wrong fields.Application (p .address) (p .interval)) (cond f (answers.Wrong fields.Reference (p .address) (p .interval)) answers.Good))
 
 -- the same tag is expected, where any is
 abbrev pub SameTag : Rules → Place → Place → Type 0

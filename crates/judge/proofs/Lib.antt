@@ -1,6 +1,5 @@
 pub mod FirstLaws
 pub mod PlaceLaws
 pub mod BlockLaws
-pub mod Named
 pub mod Alike
 pub mod Coincide

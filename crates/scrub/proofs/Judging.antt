@@ -3,7 +3,7 @@
 use mathlib.Core.Path.{_≡_, refl, sym, ap, _∙_}
 use mathlib.Core.Bool.{Bool, true, false, not, _&&_, _||_, true≢false}
 use mathlib.Core.List.{List}
-use Prim.Native.Nat.{ℕ, suc, _+_, _*_, _%_, _^_, _≤_, _<_}
+use Prim.Native.Nat.{ℕ, suc, _+_, _*_, _^_, _≤_, _<_}
 use native.Mathlib.Nat.{mod-add-mod, mul-le-mul-right, suc-mul}
 use native.Mathlib.Omega.{arith}
 use borrow.Author.Tests.{eq-eqb, ne-eqb, eqb-true}
@@ -12,14 +12,13 @@ use lib.ListN.{length, take, drop}
 use Rattle.answer.specs.Answer.{isGood}
 use Rattle.answer.specs.declared.Answer.{Answer}
 use Rattle.segment.specs.declared.Description.{Description}
-use Rattle.segment.specs.Segment.{Segment, intervalsOf, sizeOf, storedOf, lengthOf}
+use Rattle.segment.specs.Segment.{Segment, intervalsOf, storedOf, lengthOf}
 use Rattle.segment.specs.Places.{blockAt}
 use Rattle.segment.proofs.Laws.{stored-intervals}
 use Rattle.segment.proofs.Places.{span-few}
 use Rattle.command.specs.declared.Operation.the-variants.{Read}
 use Rattle.command.specs.Sixteen.{sixteen}
 use Rattle.interval.specs.declared.Rules.{Rules}
-use Rattle.interval.specs.declared.Place.{Place}
 use Rattle.judge.specs.Judge.{judgeBlock}
 use Rattle.judge.proofs.BlockLaws.{own-block}
 use Rattle.judge.proofs.Alike.{SameTag}

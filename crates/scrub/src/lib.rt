@@ -1,13 +1,13 @@
 // Scrubbing: a few blocks of a segment from a place on, how many of them have a fault, and where the first is.
 ghost use mathlib.Core.Path.{_≡_};
-ghost use Prim.Native.Nat.{_+_, _≤_, _<_, _^_};
-ghost use lib.ListN.{length};
+ghost use Prim.Native.Nat.{_+_, _≤_, _<_};
 ghost use mathlib.Core.Bool.{true, false, not};
+ghost use lib.ListN.{length};
 ghost use Rattle.guard.specs.Rows.{RightRows};
 ghost use Rattle.answer.specs.Answer.{isGood};
 ghost use Rattle.segment.specs.Segment.{Segment, lengthOf};
 ghost use Rattle.interval.specs.Interval.{judgePieces};
-ghost use Rattle.judge.specs.Judge.{judgeIntervals, judgeBlock, Stretch};
+ghost use Rattle.judge.specs.Judge.{judgeBlock, Stretch};
 ghost use Rattle.rules.specs.Intervals.{placeAt};
 ghost use Rattle.rules.specs.ReadAll.{readAll};
 ghost use Rattle.scrub.specs.Scrub.{coveredOf, Stepped, scrubRules, refused, scrubbed};
@@ -50,7 +50,8 @@ fn wrong_pieces(w: &[u16; 64], r: Rules, p: Place, data: &[u8], field: &[u8]) ->
     false
 }
 
-// Whether the block at a place, `s`, has a fault: an interval of it is wrong, and none has the escape.
+// Whether a block has a fault: an interval of it is wrong, and none has the escape. One behind a wrong one may have it, so none is
+// left out; to look for the escape first takes longer, where blocks are small.
 fn faulty_intervals(w: &[u16; 64], r: Rules, p: Place, s: &[u8]) -> bool
     requires { ⌜ RightRows (now w) ⌝ }
     requires { ⌜ (Stretch r (r .intervals) p (now s)) × (r .guard ≡ true) × (r .application ≡ false) ⌝ }
@@ -76,7 +77,7 @@ fn faulty_intervals(w: &[u16; 64], r: Rules, p: Place, s: &[u8]) -> bool
     wrong
 }
 
-// Whether the block at a place, `s`, has a fault.
+// Whether `s`, the block at a place, has a fault.
 fn faulty_block(w: &[u16; 64], r: Rules, d: Description, at: u64, s: &[u8]) -> bool
     requires { ⌜ RightRows (now w) ⌝ }
     requires { ⌜ Looked r d at (length (now s)) ⌝ }

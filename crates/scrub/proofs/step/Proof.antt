@@ -19,7 +19,6 @@ use Rattle.rules.specs.Rules.{rulesOf}
 use Rattle.rules.specs.Intervals.{placeAt}
 use Rattle.rules.specs.ReadAll.{readAll}
 use Rattle.scrub.specs.Scrub.{faultyAt, coveredOf}
-use Rattle.scrub.specs.Onward.{Looked}
 use Rattle.scrub.proofs.Judging.{fault-cut, block-few, block-within}
 use Rattle.scrub.proofs.Laws.{covered-most, stepped-plain, Going, begins, turn, ended}
 use borrow.Author.Needs.{needs}
@@ -74,7 +73,7 @@ looked d s at {size} g n z er e =
     e ∙ rw (part-at (at * size) size s, er, z) (sym (fault-cut d g s at n))
 
 returns : tie.Need-returns Inv-loop μ-loop
-returns c = let start = c .before .before .before .before in stepped-plain _ _ (c .if1 .taken) (c .before .before .covered .ensures)
+returns c = stepped-plain _ _ (c .if1 .taken) (c .before .before .covered .ensures)
 
 add-at : tie.Need-add-at Inv-loop μ-loop
 add-at c = omega (arith, here c .inside, here c .most)

@@ -1,7 +1,7 @@
 -- `scrub::wrong_pieces`: where the guard is checked and the application tag is not, the guard and the reference tag decide.
 -- Assumes nothing.
 use mathlib.Core.Path.{_≡_, refl, sym, ap, _∙_}
-use mathlib.Core.Bool.{Bool, true, false, not, _&&_, _||_, cond, true≢false}
+use mathlib.Core.Bool.{Bool, true, false, not, _&&_, _||_, true≢false}
 use mathlib.Core.List.{List}
 use Prim.Native.Nat.{ℕ}
 use lib.Dec.{eqb}
@@ -9,23 +9,20 @@ use borrow.Author.Tests.{eq-eqb, ne-eqb}
 use Rattle.guard.specs.Guard.{guard}
 use Rattle.field.specs.Field.{storedGuard, storedReference}
 use Rattle.answer.specs.Answer.{isGood}
-use Rattle.answer.specs.declared.Answer.the-variants as answers
-use Rattle.answer.specs.declared.Field.the-variants as fields
 use Rattle.interval.specs.declared.Rules.{Rules}
 use Rattle.interval.specs.declared.Place.{Place}
 use Rattle.interval.specs.Interval.{guardWrong, applicationWrong, referenceWrong, judgePieces}
+use Rattle.judge.proofs.Alike.{inTurn}
 use borrow.Author.Needs.{needs}
 use Rattle.scrub.proofs.wrong_pieces.Statement.{statement}
 use Rattle.scrub.proofs.wrong_pieces.Tie as tie
 
-decides : (g a x y z : Bool) (m n : ℕ) → g ≡ true → a ≡ false
-    → not (isGood (cond (g && x) (answers.Wrong fields.Guard m n) (cond (a && y) (answers.Wrong fields.Application m n) (cond z (answers.Wrong fields.Reference m n) answers.Good))))
-    ≡ x || z
-decides false a x y z m n e o = absurd (true≢false (sym e))
-decides true true x y z m n e o = absurd (true≢false o)
-decides true false true y z m n e o = refl
-decides true false false y true m n e o = refl
-decides true false false y false m n e o = refl
+decides : (p : Place) (g a x y z : Bool) → g ≡ true → a ≡ false → not (isGood (inTurn p (g && x) (a && y) z)) ≡ x || z
+decides p false a x y z e o = absurd (true≢false (sym e))
+decides p true true x y z e o = absurd (true≢false o)
+decides p true false true y z e o = refl
+decides p true false false y true e o = refl
+decides p true false false y false e o = refl
 
 module _ (r : Rules) (p : Place) (d f : List ℕ) (g : r .guard ≡ true) (a : r .application ≡ false) where
   abbrev wrong : Bool
@@ -33,7 +30,7 @@ module _ (r : Rules) (p : Place) (d f : List ℕ) (g : r .guard ≡ true) (a : r
 
   by-both : wrong ≡ not (eqb (storedGuard f) (guard d)) || (r .reference && not (eqb (storedReference f) (p .tag)))
   unfolding judgePieces guardWrong applicationWrong referenceWrong
-  by-both = decides (r .guard) (r .application) _ _ _ (p .address) (p .interval) g a
+  by-both = decides p (r .guard) (r .application) _ _ _ g a
 
   module _ {x y : ℕ} (ex : x ≡ storedGuard f) (ey : y ≡ guard d) where
     by-guard : (x ≡ y → ⊥) → true ≡ wrong
