@@ -2,7 +2,7 @@
 -- Assumes nothing.
 use mathlib.Core.Path.{_≡_, refl, sym, ap, _∙_}
 use mathlib.Core.Logic.{_↔_, _⊎_, inl, inr, ⊎-elim}
-use mathlib.Core.Bool.{Bool, true, false, not, cond, true≢false}
+use mathlib.Core.Bool.{Bool, true, false, not, _&&_, cond, true≢false}
 use borrow.Author.Tests.{not-true, not-false}
 use lib.Dec.{T}
 use Rattle.answer.specs.Answer.{isGood, orElse, refusedIf}
@@ -65,6 +65,14 @@ both-good a b e = by (isGood a) refl e
     by : (g : Bool) → isGood a ≡ g → isGood (cond g b a) ≡ true → (isGood a ≡ true) × (isGood b ≡ true)
     by true p q = (p, q)
     by false p q = (q, absurd (true≢false (sym q ∙ p)))
+
+-- whether it is good, as a test
+pub good-of-both : (a b : Answer) → isGood (orElse a b) ≡ (isGood a && isGood b)
+good-of-both a b = by (isGood a) refl
+  where
+    by : (g : Bool) → isGood a ≡ g → isGood (cond g b a) ≡ (g && isGood b)
+    by true e = refl
+    by false e = e
 
 -- a rule that does not refuse
 pub not-refused : (b : Bool) (r : Reason) → isGood (refusedIf b r) ≡ true → b ≡ false

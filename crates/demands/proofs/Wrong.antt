@@ -23,7 +23,7 @@ use Rattle.interval.proofs.PieceLaws.{pieces-verdict}
 use Rattle.judge.specs.FirstOf.{firstOf}
 use Rattle.judge.specs.Judge.{judgeIntervals, judgeBlock, judgeBlocks, nextInterval, nextBlock}
 use Rattle.answer.proofs.Ladder.{not-both}
-use Rattle.judge.proofs.Alike.{inTurn}
+use Rattle.interval.proofs.PieceLaws.{inTurn}
 use Rattle.judge.proofs.FirstLaws.{first-good, first-found, FirstWrong}
 use Rattle.sides.specs.declared.Side.{Side}
 use Rattle.sides.specs.Sides.{checkedOn}

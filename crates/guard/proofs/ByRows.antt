@@ -55,8 +55,8 @@ low v = mod-lt v (lit< tt)
 high : (v : ℕ) → v < 65536 → v / 4096 < 16
 high v h = omega arith
 
-one-byte : (v : ℕ) → v / 16 % 16 * 16 + v % 16 ≡ v % 256
-one-byte v = omega arith
+two-halves : (v : ℕ) → v / 16 % 16 * 16 + v % 16 ≡ v % 256
+two-halves v = omega arith
 
 three-halves : (v : ℕ) → v / 256 % 16 * 256 + v % 256 ≡ v % 4096
 three-halves v = omega arith
@@ -69,18 +69,18 @@ joined a k b h = xor-comm b (a * 2 ^ k) ∙ xor-shifted a k b h
 
 halves : (v : ℕ) → bitXor (bitXor (bitXor (v % 16) (v / 16 % 16 * 16)) (v / 256 % 16 * 256)) (v / 4096 * 4096) ≡ v
 halves v =
-    ap (λ (x : ℕ). bitXor (bitXor x (v / 256 % 16 * 256)) (v / 4096 * 4096)) (joined (v / 16 % 16) 4 (v % 16) (low v) ∙ one-byte v)
+    ap (λ (x : ℕ). bitXor (bitXor x (v / 256 % 16 * 256)) (v / 4096 * 4096)) (joined (v / 16 % 16) 4 (v % 16) (low v) ∙ two-halves v)
     ∙ ap (λ (x : ℕ). bitXor x (v / 4096 * 4096)) (joined (v / 256 % 16) 8 (v % 256) (mod-lt v (lit< tt)) ∙ three-halves v)
     ∙ joined (v / 4096) 12 (v % 4096) (mod-lt v (lit< tt))
     ∙ all-halves v
 
-module _ (w : List ℕ) (right : RightRows w) where
+module _ (w : List ℕ) (rows : RightRows w) where
   -- number n of row k
   number : (i k n : ℕ) → i ≡ 16 * k + n → n < 16 → i < 64 → n * 16 ^ k < 65536 → getD w i 0 ≡ times 16 (n * 16 ^ k)
   number i k n e h l small =
       let row : i / 16 ≡ k = omega arith in
       let column : i % 16 ≡ n = omega arith in
-      right .entry i l ∙ ap₂ (λ (x y : ℕ). guard (twoBytes (x * 16 ^ y))) column row ∙ two-guard (n * 16 ^ k) small
+      rows .entry i l ∙ ap₂ (λ (x y : ℕ). guard (twoBytes (x * 16 ^ y))) column row ∙ two-guard (n * 16 ^ k) small
 
   row-0 : (n : ℕ) → n < 16 → getD w n 0 ≡ times 16 n
   row-0 n h = number n 0 n (omega arith) h (omega arith) (omega arith) ∙ ap (times 16) (mul-one n)

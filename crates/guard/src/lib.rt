@@ -1,4 +1,5 @@
-// The guard of an interval's data, by long division and through a table of 256 numbers; and copying the data with it.
+// The guard of an interval's data, by long division, through a table of 256 numbers, and two bytes at a time through rows of
+// sixteen; and copying the data with it.
 ghost use mathlib.Core.Path.{_≡_};
 ghost use Prim.Native.Nat.{_+_, _*_, _%_, _<_};
 ghost use lib.ListN.{length, take};
@@ -450,7 +451,7 @@ fn rows_step(w: &[u16; 64], v: u16) -> u16
     w[a as usize] ^ w[16 + b as usize] ^ w[32 + c as usize] ^ w[48 + d as usize]
 }
 
-// The guard of the first byte of `data`, where their number is odd; 0, that of none, where it is even.
+// The guard of the first byte of `data` where the number of its bytes is odd; 0, the guard of no bytes, where it is even.
 fn odd_first(w: &[u16; 64], data: &[u8]) -> u16
     requires { ⌜ RightRows (now w) ⌝ }
     ensures { λ r. ⌜ r ≡ guard (take (length (now («data» .entry)) % 2) (now («data» .entry))) ⌝ }
@@ -461,7 +462,8 @@ fn odd_first(w: &[u16; 64], data: &[u8]) -> u16
     rows_step(w, data[0] as u16)
 }
 
-// The guard of `data` through rows that the caller lends: two bytes at a time, behind the first where their number is odd.
+// The guard of `data` through rows that the caller lends: two bytes at a time, behind the first byte where the number
+// of them is odd.
 pub fn guard_through_rows(w: &[u16; 64], data: &[u8]) -> u16
     requires { ⌜ RightRows (now w) ⌝ }
     ensures { λ r. ⌜ r ≡ guard (now («data» .entry)) ⌝ }

@@ -25,6 +25,12 @@ unchecked on b o = rw o refl
 
 -- ---- three tests in order
 
+-- "in one interval guard, application, reference": what is answered where these are wrong
+abbrev pub inTurn : Place → Bool → Bool → Bool → Answer
+inTurn p g a f =
+    cond g (answers.Wrong fields.Guard (p .address) (p .interval))
+    (cond a (answers.Wrong fields.Application (p .address) (p .interval)) (cond f (answers.Wrong fields.Reference (p .address) (p .interval)) answers.Good))
+
 -- answers with different numbers are different
 apart : {G : Type 0} (m n : Answer) → eqb (numberOf m) (numberOf n) ≡ false → m ≡ n → G
 apart m n d e = absurd (eqb-false (numberOf m) (numberOf n) d (ap numberOf e))

@@ -6,33 +6,20 @@ use mathlib.Core.List.{List}
 use Prim.Native.Nat.{ℕ, zero, suc, _+_, _%_, _^_}
 use lib.Dec.{eqb}
 use lib.ListN.{drop}
-use Rattle.answer.specs.Answer.{isGood, orElse}
-use Rattle.answer.specs.declared.Answer.{Answer}
+use Rattle.answer.specs.Answer.{isGood}
 use Rattle.answer.specs.declared.Answer.the-variants as answers
-use Rattle.answer.specs.declared.Field.the-variants as fields
+use Rattle.answer.proofs.Ladder.{good-of-both}
 use Rattle.field.specs.Field.{dataOf, fieldOf, storedReference}
 use Rattle.interval.specs.declared.Rules.{Rules}
 use Rattle.interval.specs.declared.Place.{Place}
 use Rattle.interval.specs.Interval.{anyEscapes, guardWrong, applicationWrong, referenceWrong, judgePieces, judgeInterval}
+use Rattle.interval.proofs.PieceLaws.{inTurn}
 use Rattle.judge.specs.FirstOf.{firstOf}
 use Rattle.judge.specs.Judge.{judgeIntervals, judgeBlock, nextInterval}
-
--- "in one interval guard, application, reference": what is answered where these are wrong
-abbrev pub inTurn : Place → Bool → Bool → Bool → Answer
-inTurn p g a f =
-    cond g (answers.Wrong fields.Guard (p .address) (p .interval))
-    (cond a (answers.Wrong fields.Application (p .address) (p .interval)) (cond f (answers.Wrong fields.Reference (p .address) (p .interval)) answers.Good))
 
 -- the same tag is expected, where any is
 abbrev pub SameTag : Rules → Place → Place → Type 0
 SameTag r p q = r .reference ≡ true → p .tag ≡ q .tag
-
-pub good-both : (a b : Answer) → isGood (orElse a b) ≡ (isGood a && isGood b)
-good-both a b = by (isGood a) refl
-  where
-    by : (g : Bool) → isGood a ≡ g → isGood (cond g b a) ≡ (g && isGood b)
-    by true e = refl
-    by false e = e
 
 module _ (r : Rules) where
   reference-alike : (p q : Place) (f : List ℕ) → SameTag r p q → referenceWrong r p f ≡ referenceWrong r q f
@@ -61,9 +48,9 @@ module _ (r : Rules) where
   intervals-alike zero p q s same = refl
   intervals-alike (suc k) p q s same =
       let on = drop (r .size + 8) s in
-      good-both (judgeInterval r p s) (firstOf (judgeInterval r) nextInterval (r .size + 8) k (nextInterval p) on)
+      good-of-both (judgeInterval r p s) (firstOf (judgeInterval r) nextInterval (r .size + 8) k (nextInterval p) on)
       ∙ ap₂ _&&_ (interval-alike p q s same) (intervals-alike k (nextInterval p) (nextInterval q) on (λ e. ap (λ (t : ℕ). (t + 1) % 2 ^ 32) (same e)))
-      ∙ sym (good-both (judgeInterval r q s) (firstOf (judgeInterval r) nextInterval (r .size + 8) k (nextInterval q) on))
+      ∙ sym (good-of-both (judgeInterval r q s) (firstOf (judgeInterval r) nextInterval (r .size + 8) k (nextInterval q) on))
 
   pub block-alike : (p q : Place) (s : List ℕ) → SameTag r p q → isGood (judgeBlock r p s) ≡ isGood (judgeBlock r q s)
   unfolding judgeBlock judgeIntervals

@@ -65,10 +65,10 @@ module _ (d : Description) where
     unfolding intervalsOf
     one-interval k = ap (λ (e : ℕ). 2 ^ e) (g .plain (omega (arith, k)))
 
-    -- a READ that starts at a block expects of it the tag of its place in the segment, where any is
-    pub same-tag : (at count : ℕ) → SameTag asked (startOf d (sixteen Read (d .first + at) count)) (placeAt d (readAll d) at 0)
+    -- a READ of one block expects of it the tag of its place in the segment, where any is
+    pub own-tag : (at : ℕ) → SameTag asked (startOf d (sixteen Read (d .first + at) 1)) (placeAt d (readAll d) at 0)
     unfolding sixteen startOf firstTag
-    same-tag at count e =
+    own-tag at e =
         let k = reference-asked e in
         let there : at * 1 + 0 ≡ at = omega arith in
         rw (eq-eqb (d .kind) 1 k, one-interval k, there) (sym (mod-add-mod (d .first) (2 ^ 32) at))

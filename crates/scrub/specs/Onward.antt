@@ -15,12 +15,12 @@ use Rattle.scrub.specs.declared.Found.{Found}
 -- the listing and the scrub judge by
 pub record Looked (r : Rules) (d : Description) (at bytes : ℕ) : Type 0 where
   pub segment : Segment d
-  pub fields : d .kind ≡ 0 → ⊥
+  pub not-zero : d .kind ≡ 0 → ⊥
   pub inside : at < d .count
   pub whole : bytes ≡ storedOf d
   pub rules : r ≡ rulesOf Stored d (readAll d)
 
--- what has been found, with the block of an address that has a fault or has none: the first such is named
+-- what has been found, and one block more, which has a fault or has none: the address of the first that has one is kept
 abbrev pub withBlock : Bool → ℕ → Found → Found
 withBlock faulty address f =
     cond faulty (record { faults = f .faults + 1; first = cond (eqb (f .faults) 0) address (f .first) }) f

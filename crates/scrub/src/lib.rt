@@ -50,8 +50,8 @@ fn wrong_pieces(w: &[u16; 64], r: Rules, p: Place, data: &[u8], field: &[u8]) ->
     false
 }
 
-// Whether a block has a fault: an interval of it is wrong, and none has the escape. One behind a wrong one may have it, so none is
-// left out; to look for the escape first takes longer, where blocks are small.
+// Whether a block has a fault: an interval of it is wrong, and none has the escape. An interval behind a wrong one may have the
+// escape, so the loop goes through all of them.
 fn faulty_intervals(w: &[u16; 64], r: Rules, p: Place, s: &[u8]) -> bool
     requires { ⌜ RightRows (now w) ⌝ }
     requires { ⌜ (Stretch r (r .intervals) p (now s)) × (r .guard ≡ true) × (r .application ≡ false) ⌝ }
@@ -77,7 +77,8 @@ fn faulty_intervals(w: &[u16; 64], r: Rules, p: Place, s: &[u8]) -> bool
     wrong
 }
 
-// Whether `s`, the block at a place, has a fault.
+// Whether `s`, the block at a place, has a fault. It is judged as by a 16-byte READ with code 001, to which the type rules are not
+// applied: in type 2 such a command itself would be answered 5.
 fn faulty_block(w: &[u16; 64], r: Rules, d: Description, at: u64, s: &[u8]) -> bool
     requires { ⌜ RightRows (now w) ⌝ }
     requires { ⌜ Looked r d at (length (now s)) ⌝ }
@@ -134,9 +135,9 @@ pub fn step(
     ensures { λ r. ⌜ Stepped d (now (s .entry)) place blocks r (now (faults .exit)) (now (first .exit)) ⌝ }
 {
     let count = covered(d, place, blocks);
-    *faults = 0;
-    *first = 0;
     if d.kind == 0 {
+        *faults = 0;
+        *first = 0;
         return count;
     }
     let size = segment::stored(d);

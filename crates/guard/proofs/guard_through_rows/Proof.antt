@@ -24,11 +24,11 @@ record Going (s : List ℕ) (r i : ℕ) : Type 0 where
 pair : (n i : ℕ) → (n - i) % 2 ≡ 0 → i < n → i + 1 < n
 pair n i e h = omega arith
 
-still : (n i : ℕ) → (n - i) % 2 ≡ 0 → i + 1 < n → (n - (i + 2)) % 2 ≡ 0
-still n i e h = omega arith
+still-even : (n i : ℕ) → (n - i) % 2 ≡ 0 → i + 1 < n → (n - (i + 2)) % 2 ≡ 0
+still-even n i e h = omega arith
 
-fewer-left : (n : ℕ) → (n - n % 2) % 2 ≡ 0
-fewer-left n = omega arith
+even-left : (n : ℕ) → (n - n % 2) % 2 ≡ 0
+even-left n = omega arith
 
 most : (n : ℕ) → n % 2 ≤ n
 most n = omega arith
@@ -43,7 +43,7 @@ begins : (s : List ℕ) (r : ℕ) → r ≡ guard (take (length s % 2) s) → Go
 begins s r e =
     record {
       fewer = most (length s);
-      even = fewer-left (length s);
+      even = even-left (length s);
       small = rw e (guard-lt _);
       same = rw e (sym (guard-append _ _) ∙ ap guard (take-append-drop (length s % 2) s));
     }
@@ -74,7 +74,7 @@ loop-again c =
     let s = start .args .«data» .now in
     let here = pair _ _ (l .inv .even) (turn .loop-test .taken) in
     let next = rows-next _ (start .pre) s (l .r) _ (l .i) _ (l .inv .small) here (c .before .before .shared-slice-known2 .given (l .i) .fits) (c .before .shared-slice-known3 .given (l .i + 1) .fits) (c .rows-step .ensures) (l .inv .same) in
-    record { fewer = omega arith; even = still _ _ (l .inv .even) here; small = next .0; same = next .1 }
+    record { fewer = omega arith; even = still-even _ _ (l .inv .even) here; small = next .0; same = next .1 }
 
 returns : tie.Need-returns Inv-loop μ-loop
 returns c = guard-end _ _ (c .before .loop .i) _ (c .loop-test .left) (c .before .loop .inv .same)

@@ -1,4 +1,4 @@
--- `guard::odd_first`: no byte has the guard 0; the first byte alone chooses from two rows.
+-- `guard::odd_first`: the guard of no bytes is 0; that of the first byte alone is the one of two bytes, of which the first is 0.
 -- Assumes nothing.
 use mathlib.Core.Path.{_≡_, refl}
 use mathlib.Core.List.{List}

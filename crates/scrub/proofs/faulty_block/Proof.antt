@@ -1,4 +1,4 @@
--- `scrub::faulty_block`: a READ that starts at the block expects of it what is expected at its place in the segment.
+-- `scrub::faulty_block`: a READ of the one block expects of it what is expected at its place in the segment.
 -- Assumes nothing.
 use mathlib.Core.Path.{_≡_, sym, ap, _∙_}
 use mathlib.Core.Bool.{Bool, true, false, not}
@@ -20,7 +20,7 @@ use Rattle.rules.specs.Rules.{rulesOf, startOf}
 use Rattle.rules.specs.Intervals.{placeAt}
 use Rattle.rules.specs.ReadAll.{readAll}
 use Rattle.scrub.specs.Onward.{Looked}
-use Rattle.scrub.proofs.Judging.{guard-asked, application-not, same-tag}
+use Rattle.scrub.proofs.Judging.{guard-asked, application-not, own-tag}
 use borrow.Author.Needs.{needs}
 use Rattle.scrub.proofs.faulty_block.Statement.{statement}
 use Rattle.scrub.proofs.faulty_block.Tie as tie
@@ -31,7 +31,7 @@ module _ {r : Rules} {d : Description} {at : ℕ} (s : List ℕ) (w : Looked r d
   fits =
       rw (w .rules, ep) (
         record {
-          whole = sym (stored-intervals d (w .segment) (w .fields)) ∙ sym (w .whole);
+          whole = sym (stored-intervals d (w .segment) (w .not-zero)) ∙ sym (w .whole);
           intervals = omega (arith, sizes d (w .segment) .intervals-most);
         },
         guard-asked d,
@@ -39,7 +39,7 @@ module _ {r : Rules} {d : Description} {at : ℕ} (s : List ℕ) (w : Looked r d
       )
 
   told : {x : Bool} → x ≡ not (isGood (judgeBlock r p s)) → x ≡ not (isGood (judgeBlock r (placeAt d (readAll d) at 0) s))
-  told e = e ∙ rw (w .rules, ep, ec) (ap not (block-alike _ _ _ s (same-tag d (w .segment) at 1)))
+  told e = e ∙ rw (w .rules, ep, ec) (ap not (block-alike _ _ _ s (own-tag d (w .segment) at)))
 
 add-sixteen : tie.Need-add-sixteen
 add-sixteen c = let w = c .before .before .pre .1 in omega (arith, w .inside, w .segment .end)

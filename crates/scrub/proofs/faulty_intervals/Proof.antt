@@ -7,9 +7,11 @@ use Prim.Native.Nat.{ℕ, zero, suc, _+_, _*_, _-_, _^_, _<_, _≤_}
 use native.Mathlib.Nat.{zero-add, add-assoc}
 use native.Mathlib.Omega.{arith}
 use lib.ListN.{length, take, drop}
+use Rattle.words.proofs.Choice.{or-assoc, or-false}
 use Rattle.words.proofs.Turns.{turn-of}
 use Rattle.answer.specs.Answer.{isGood, orElse}
 use Rattle.answer.specs.declared.Answer.{Answer}
+use Rattle.answer.proofs.Ladder.{good-of-both}
 use Rattle.field.specs.Field.{fieldOf}
 use Rattle.field.proofs.Laws.{interval-within, interval-rest, data-part, field-part}
 use Rattle.interval.specs.declared.Rules.{Rules}
@@ -18,26 +20,17 @@ use Rattle.interval.specs.Interval.{escapes, anyEscapes, judgePieces, judgeInte
 use Rattle.interval.proofs.IntervalLaws.{any-next, any-stop, any-end}
 use Rattle.judge.specs.FirstOf.{firstOf}
 use Rattle.judge.specs.Judge.{judgeIntervals, judgeBlock, nextInterval, Stretch}
-use Rattle.judge.proofs.Alike.{good-both}
 use Rattle.judge.proofs.BlockLaws.{block-escaped, block-judged}
 use borrow.Author.Needs.{needs}
 use Rattle.scrub.proofs.faulty_intervals.Statement.{statement}
 use Rattle.scrub.proofs.faulty_intervals.Tie as tie
 
 either-wrong : (a b : Answer) → not (isGood (orElse a b)) ≡ (not (isGood a) || not (isGood b))
-either-wrong a b = ap not (good-both a b) ∙ by (isGood a)
+either-wrong a b = ap not (good-of-both a b) ∙ by (isGood a)
   where
     by : (g : Bool) → not (g && isGood b) ≡ (not g || not (isGood b))
     by true = refl
     by false = refl
-
-regroup : (x y z : Bool) → ((x || y) || z) ≡ (x || (y || z))
-regroup true y z = refl
-regroup false y z = refl
-
-none-more : (x : Bool) → (x || false) ≡ x
-none-more true = refl
-none-more false = refl
 
 module _ (r : Rules) where
   -- whether any of k intervals is wrong
@@ -89,13 +82,13 @@ module _ {r : Rules} {p : Place} {s : List ℕ} {left : ℕ} {here : Place} {wro
           from = interval-rest left i (r .size) (length s) h (g .from);
           room = omega (arith, h, g .room);
           escaped = rw (add-assoc i (r .size) 8) (any-next (r .escape) (r .size) left i s b _ h looked f (g .escaped));
-          same = rw (add-assoc i (r .size) 8) (regroup wrong x _ ∙ ap (λ (y : Bool). wrong || y) rest ∙ g .same);
+          same = rw (add-assoc i (r .size) 8) (or-assoc wrong x _ ∙ ap (λ (y : Bool). wrong || y) rest ∙ g .same);
         })
 
 -- none had the escape
 done : {r : Rules} {p : Place} {s : List ℕ} {left : ℕ} {here : Place} {wrong : Bool} {i : ℕ} → Going r p s left here wrong i → left ≤ 0 → wrong ≡ not (isGood (judgeBlock r p s))
 done {r} {p} {s} {left} {here} {wrong} {i} g h =
-    sym (none-more wrong) ∙ ap (λ (y : Bool). wrong || y) (sym (ended r left here (drop i s) h)) ∙ g .same
+    sym (or-false wrong) ∙ ap (λ (y : Bool). wrong || y) (sym (ended r left here (drop i s) h)) ∙ g .same
     ∙ ap (λ (a : Answer). not (isGood a)) (sym (block-judged r p s (sym (any-end (r .escape) (r .size) left (drop i s) _ h (g .escaped)))))
 
 abbrev Inv-loop : tie.InvT-loop

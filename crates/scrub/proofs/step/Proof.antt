@@ -95,7 +95,7 @@ faulty-block-requires c κs =
       start .pre .0,
       record {
         segment = start .pre .1 .0;
-        fields = on .before .if1 .left;
+        not-zero = on .before .if1 .left;
         inside = here in-loop .inside;
         whole = cut _ _ (on .stored .ensures) (here in-loop .within);
         rules = asked _ (in-loop .before .before .before .sixteen .ensures) (in-loop .before .before .rules .ensures);

@@ -12,7 +12,7 @@ use Rattle.answer.specs.Answer.{isGood}
 use Rattle.interval.specs.declared.Rules.{Rules}
 use Rattle.interval.specs.declared.Place.{Place}
 use Rattle.interval.specs.Interval.{guardWrong, applicationWrong, referenceWrong, judgePieces}
-use Rattle.judge.proofs.Alike.{inTurn}
+use Rattle.interval.proofs.PieceLaws.{inTurn}
 use borrow.Author.Needs.{needs}
 use Rattle.scrub.proofs.wrong_pieces.Statement.{statement}
 use Rattle.scrub.proofs.wrong_pieces.Tie as tie
