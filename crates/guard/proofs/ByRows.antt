@@ -4,13 +4,15 @@ use mathlib.Core.Path.{_≡_, refl, sym, ap, ap₂, _∙_}
 use mathlib.Core.Bool.{Bool}
 use mathlib.Core.List.{List, [], _∷_}
 use Prim.Native.Nat.{ℕ, _+_, _*_, _/_, _%_, _^_, _<_, _≤_}
-use native.Mathlib.Nat.{mod-lt, lt-of-lt-of-le, mul-one}
+use native.Mathlib.Nat.{mod-lt, lt-of-lt-of-le, mul-one, zero-add, mul-le-mul, pow-le-pow-right}
 use native.Mathlib.Omega.{arith}
 use lib.Bits.{bitXor, xor-lt, xor-shifted, xor-comm, xor-zero-l}
-use lib.Dec.{T, lit<, eqb, eqb→eq}
+use lib.Dec.{T, lit<, lit≤, eqb, eqb→eq}
 use lib.ListN.{length, getD, take, drop}
+use Rattle.words.specs.BigEndian.{numberFrom, number, numberAt}
 use Rattle.words.proofs.BitXor.{xor-assoc}
 use Rattle.words.proofs.Every.{every, each}
+use Rattle.words.proofs.Parts.{drop-next}
 use Rattle.guard.specs.Guard.{guard}
 use Rattle.guard.specs.Remainder.{timesX, times, stepByte, guardFrom}
 use Rattle.guard.specs.Rows.{twoBytes, RightRows, rowsStep}
@@ -74,48 +76,46 @@ halves v =
     ∙ joined (v / 4096) 12 (v % 4096) (mod-lt v (lit< tt))
     ∙ all-halves v
 
+-- the number of two bytes in a row
+pair : (s : List ℕ) (i : ℕ) → i + 2 ≤ length s → numberAt i 2 s ≡ getD s i 0 * 256 + getD s (i + 1) 0
+unfolding numberAt number numberFrom
+pair s i h = rw (drop-next s i 0 (omega arith), drop-next s (i + 1) 0 (omega arith)) (omega arith)
+
 module _ (w : List ℕ) (rows : RightRows w) where
   -- number n of row k
-  number : (i k n : ℕ) → i ≡ 16 * k + n → n < 16 → i < 64 → n * 16 ^ k < 65536 → getD w i 0 ≡ times 16 (n * 16 ^ k)
-  number i k n e h l small =
-      let row : i / 16 ≡ k = omega arith in
-      let column : i % 16 ≡ n = omega arith in
-      rows .entry i l ∙ ap₂ (λ (x y : ℕ). guard (twoBytes (x * 16 ^ y))) column row ∙ two-guard (n * 16 ^ k) small
-
-  row-0 : (n : ℕ) → n < 16 → getD w n 0 ≡ times 16 n
-  row-0 n h = number n 0 n (omega arith) h (omega arith) (omega arith) ∙ ap (times 16) (mul-one n)
-
-  row-1 : (n : ℕ) → n < 16 → getD w (16 + n) 0 ≡ times 16 (n * 16)
-  row-1 n h = number (16 + n) 1 n refl h (omega arith) (omega arith)
-
-  row-2 : (n : ℕ) → n < 16 → getD w (32 + n) 0 ≡ times 16 (n * 256)
-  row-2 n h = number (32 + n) 2 n refl h (omega arith) (omega arith)
-
-  row-3 : (n : ℕ) → n < 16 → getD w (48 + n) 0 ≡ times 16 (n * 4096)
-  row-3 n h = number (48 + n) 3 n refl h (omega arith) (omega arith)
+  number-of : (k n : ℕ) → k ≤ 3 → n < 16 → getD w (16 * k + n) 0 ≡ times 16 (n * 16 ^ k)
+  number-of k n l h =
+      let row : (16 * k + n) / 16 ≡ k = omega arith in
+      let column : (16 * k + n) % 16 ≡ n = omega arith in
+      let few : n ≤ 15 = omega arith in
+      let most : n * 16 ^ k ≤ 15 * 16 ^ 3 = mul-le-mul few (pow-le-pow-right (lit< tt) l) in
+      rows .entry (16 * k + n) (omega arith) ∙ ap₂ (λ (x y : ℕ). guard (twoBytes (x * 16 ^ y))) column row
+      ∙ two-guard (n * 16 ^ k) (omega arith)
 
   pub rows-step : (v : ℕ) → v < 65536 → rowsStep w v ≡ times 16 v
   unfolding rowsStep
   rows-step v h =
       ap₂ bitXor
-      (ap₂ bitXor (ap₂ bitXor (row-0 (v % 16) (low v)) (row-1 (v / 16 % 16) (low (v / 16))) ∙ sym (times-xor 16 _ _)) (row-2 (v / 256 % 16) (low (v / 256)))
+      (ap₂ bitXor
+      (ap₂ bitXor (rw (zero-add, mul-one) at (number-of 0 (v % 16) (lit≤ tt) (low v))) (number-of 1 (v / 16 % 16) (lit≤ tt) (low (v / 16)))
       ∙ sym (times-xor 16 _ _))
-      (row-3 (v / 4096) (high v h))
+      (number-of 2 (v / 256 % 16) (lit≤ tt) (low (v / 256)))
+      ∙ sym (times-xor 16 _ _))
+      (number-of 3 (v / 4096) (lit≤ tt) (high v h))
       ∙ sym (times-xor 16 _ _)
       ∙ ap (times 16) (halves v)
 
   -- in a loop: two bytes more leave a remainder, and what is left gives what the whole gives
-  pub rows-next : (s : List ℕ) (r n i g : ℕ) → r < 65536 → i + 1 < length s → getD s i 0 < 256 → getD s (i + 1) 0 < 256
-      → n ≡ rowsStep w (bitXor r (getD s i 0 * 256 + getD s (i + 1) 0)) → guardFrom r (drop i s) ≡ g
-      → (n < 65536) × (guardFrom n (drop (i + 2) s) ≡ g)
-  rows-next s r n i g h here ha hb e same =
+  pub rows-next : (s : List ℕ) (r n i v g : ℕ) → r < 65536 → i + 2 ≤ length s → getD s i 0 < 256 → getD s (i + 1) 0 < 256 → v ≡ numberAt i 2 s
+      → n ≡ rowsStep w (bitXor r v) → guardFrom r (drop i s) ≡ g → (n < 65536) × (guardFrom n (drop (i + 2) s) ≡ g)
+  rows-next s r n i v g h here ha hb ev e same =
       let a = getD s i 0 in
       let b = getD s (i + 1) 0 in
       let met : bitXor r (a * 256 + b) < 65536 = xor-lt 16 r (a * 256 + b) h (omega arith) in
-      let by : n ≡ stepByte (stepByte r a) b = e ∙ rows-step _ met ∙ sym (two-steps r a b ha hb) in
+      let by : n ≡ stepByte (stepByte r a) b = e ∙ ap (λ (x : ℕ). rowsStep w (bitXor r x)) (ev ∙ pair s i here) ∙ rows-step _ met ∙ sym (two-steps r a b ha hb) in
       let on : i + 1 + 1 ≡ i + 2 = omega arith in (
         rw by (stepByte-lt (stepByte r a) b),
-        rw by (rw on at (guard-next s (stepByte r a) (i + 1) g here (guard-next s r i g (omega arith) same))),
+        rw by (rw on at (guard-next s (stepByte r a) (i + 1) g (omega arith) (guard-next s r i g (omega arith) same))),
       )
 
   -- the first byte alone

@@ -471,7 +471,7 @@ pub fn guard_through_rows(w: &[u16; 64], data: &[u8]) -> u16
     let mut r = odd_first(w, data);
     let mut i = data.len() % 2;
     while i < data.len() {
-        let v = (data[i] as u16) * 256 + data[i + 1] as u16;
+        let v = words::read2(data, i);
         r = rows_step(w, r ^ v);
         i += 2;
     }

@@ -94,7 +94,7 @@ fn application_wrong(r: Rules, field: &[u8]) -> bool
 }
 
 // Whether the reference tag is checked and differs from the one expected at this place.
-fn reference_wrong(r: Rules, p: Place, field: &[u8]) -> bool
+pub fn reference_wrong(r: Rules, p: Place, field: &[u8]) -> bool
     requires { ⌜ length (now field) ≡ 8 ⌝ }
     ensures { λ w. ⌜ w ≡ referenceWrong r p (now (field .entry)) ⌝ }
 {

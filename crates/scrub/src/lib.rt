@@ -44,10 +44,7 @@ fn wrong_pieces(w: &[u16; 64], r: Rules, p: Place, data: &[u8], field: &[u8]) ->
     if field::stored_guard(field) != guard::guard_through_rows(w, data) {
         return true;
     }
-    if r.reference {
-        return field::stored_reference(field) != p.tag;
-    }
-    false
+    interval::reference_wrong(r, p, field)
 }
 
 // Whether a block has a fault: an interval of it is wrong, and none has the escape. An interval behind a wrong one may have the

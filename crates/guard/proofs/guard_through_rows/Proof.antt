@@ -21,10 +21,10 @@ record Going (s : List ℕ) (r i : ℕ) : Type 0 where
   small : r < 65536
   same : guardFrom r (drop i s) ≡ guard s
 
-pair : (n i : ℕ) → (n - i) % 2 ≡ 0 → i < n → i + 1 < n
-pair n i e h = omega arith
+two-left : (n i : ℕ) → (n - i) % 2 ≡ 0 → i < n → i + 2 ≤ n
+two-left n i e h = omega arith
 
-still-even : (n i : ℕ) → (n - i) % 2 ≡ 0 → i + 1 < n → (n - (i + 2)) % 2 ≡ 0
+still-even : (n i : ℕ) → (n - i) % 2 ≡ 0 → i + 2 ≤ n → (n - (i + 2)) % 2 ≡ 0
 still-even n i e h = omega arith
 
 even-left : (n : ℕ) → (n - n % 2) % 2 ≡ 0
@@ -51,29 +51,18 @@ begins s r e =
 loop-holds : tie.Need-loop-holds Inv-loop μ-loop
 loop-holds c = begins _ _ (c .odd-first .ensures)
 
-cast-v : tie.Need-cast-v Inv-loop μ-loop
-cast-v c = omega (arith, c .shared-slice-known2 .given (c .before .before .loop .i) .fits)
-
-mul-v : tie.Need-mul-v Inv-loop μ-loop
-mul-v c = omega (arith, c .shared-slice-known2 .given (c .before .before .loop .i) .fits)
-
-shared-slice-read-v-2 : tie.Need-shared-slice-read-v-2 Inv-loop μ-loop
-shared-slice-read-v-2 c = pair _ _ (c .before .before .before .loop .inv .even) (c .before .before .loop-test .taken)
-
-cast-v-2 : tie.Need-cast-v-2 Inv-loop μ-loop
-cast-v-2 c = omega (arith, c .shared-slice-known3 .given (c .before .before .before .loop .i + 1) .fits)
-
-add-v-2 : tie.Need-add-v-2 Inv-loop μ-loop
-add-v-2 c = omega (arith, c .shared-slice-known3 .given (c .before .before .before .loop .i + 1) .fits, c .before .shared-slice-known2 .given (c .before .before .before .loop .i) .fits)
+read2-requires : tie.Need-read2-requires Inv-loop μ-loop
+read2-requires c κs = two-left _ _ (c .before .loop .inv .even) (c .loop-test .taken)
 
 loop-again : tie.Need-loop-again Inv-loop μ-loop
 loop-again c =
-    let turn = c .before .before .before in
+    let turn = c .before .before in
     let l = turn .before .loop in
     let start = turn .before .before .before .before in
     let s = start .args .«data» .now in
-    let here = pair _ _ (l .inv .even) (turn .loop-test .taken) in
-    let next = rows-next _ (start .pre) s (l .r) _ (l .i) _ (l .inv .small) here (c .before .before .shared-slice-known2 .given (l .i) .fits) (c .before .shared-slice-known3 .given (l .i + 1) .fits) (c .rows-step .ensures) (l .inv .same) in
+    let byte = turn .before .before .before .shared-slice-known .given in
+    let here = two-left _ _ (l .inv .even) (turn .loop-test .taken) in
+    let next = rows-next _ (start .pre) s (l .r) _ (l .i) _ _ (l .inv .small) here (byte (l .i) .fits) (byte (l .i + 1) .fits) (c .before .read2 .ensures) (c .rows-step .ensures) (l .inv .same) in
     record { fewer = omega arith; even = still-even _ _ (l .inv .even) here; small = next .0; same = next .1 }
 
 returns : tie.Need-returns Inv-loop μ-loop
@@ -87,15 +76,7 @@ guard-through-rows-spec =
     μ-loop
     (λ c κs. search needs)
     loop-holds
-    (λ c. search needs)
-    cast-v
-    mul-v
-    (λ c. search needs)
-    shared-slice-read-v-2
-    cast-v-2
-    add-v-2
-    (λ c κs. search needs)
-    (λ c. search needs)
-    (λ c. search needs)
+    read2-requires
+    (λ c κs. search needs) (λ c. search needs) (λ c. search needs)
     loop-again
     returns)

@@ -5,8 +5,8 @@ use mathlib.Core.Bool.{Bool, not}
 use mathlib.Core.List.{List}
 use Prim.Native.Nat.{ℕ, _+_, _*_, _-_, _^_, _≤_, _<_}
 use native.Mathlib.Omega.{arith}
-use lib.ListN.{length, take, drop, length-drop}
-use lib.Seq.{length-take-le}
+use lib.ListN.{length, take, drop}
+use Rattle.words.proofs.BigEndian.{part-length}
 use Rattle.words.proofs.Parts.{part-at}
 use Rattle.answer.specs.Answer.{isGood}
 use Rattle.segment.specs.declared.Description.{Description}
@@ -62,7 +62,7 @@ here c =
 
 -- what is cut out for it
 cut : (s : List ℕ) (i : ℕ) {size stored : ℕ} → size ≡ stored → i + size ≤ length s → length (take (i + size - i) (drop i s)) ≡ stored
-cut s i {size} e h = rw (part-at i size s) (length-take-le size (drop i s) (rw length-drop (omega arith)) ∙ e)
+cut s i {size} e h = part-length i size s h ∙ e
 
 asked : (d : Description) {c : Command} {r : Rules} → c ≡ readAll d → r ≡ rulesOf Stored d c → r ≡ rulesOf Stored d (readAll d)
 asked d ec er = er ∙ ap (rulesOf Stored d) ec

@@ -1,13 +1,13 @@
 -- `scrub::wrong_pieces`: where the guard is checked and the application tag is not, the guard and the reference tag decide.
 -- Assumes nothing.
-use mathlib.Core.Path.{_≡_, refl, sym, ap, _∙_}
+use mathlib.Core.Path.{_≡_, refl, sym, _∙_}
 use mathlib.Core.Bool.{Bool, true, false, not, _&&_, _||_, true≢false}
 use mathlib.Core.List.{List}
 use Prim.Native.Nat.{ℕ}
 use lib.Dec.{eqb}
 use borrow.Author.Tests.{eq-eqb, ne-eqb}
 use Rattle.guard.specs.Guard.{guard}
-use Rattle.field.specs.Field.{storedGuard, storedReference}
+use Rattle.field.specs.Field.{storedGuard}
 use Rattle.answer.specs.Answer.{isGood}
 use Rattle.interval.specs.declared.Rules.{Rules}
 use Rattle.interval.specs.declared.Place.{Place}
@@ -28,22 +28,16 @@ module _ (r : Rules) (p : Place) (d f : List ℕ) (g : r .guard ≡ true) (a : r
   abbrev wrong : Bool
   wrong = not (isGood (judgePieces r p d f))
 
-  by-both : wrong ≡ not (eqb (storedGuard f) (guard d)) || (r .reference && not (eqb (storedReference f) (p .tag)))
-  unfolding judgePieces guardWrong applicationWrong referenceWrong
+  by-both : wrong ≡ not (eqb (storedGuard f) (guard d)) || referenceWrong r p f
+  unfolding judgePieces guardWrong applicationWrong
   by-both = decides p (r .guard) (r .application) _ _ _ g a
 
   module _ {x y : ℕ} (ex : x ≡ storedGuard f) (ey : y ≡ guard d) where
     by-guard : (x ≡ y → ⊥) → true ≡ wrong
     by-guard n = sym (by-both ∙ rw (ne-eqb (storedGuard f) (guard d) (λ e. n (ex ∙ e ∙ sym ey))) refl)
 
-    by-reference : x ≡ y → wrong ≡ (r .reference && not (eqb (storedReference f) (p .tag)))
-    by-reference e = by-both ∙ rw (eq-eqb (storedGuard f) (guard d) (sym ex ∙ e ∙ ey)) refl
-
-    checked : {z : ℕ} → x ≡ y → r .reference ≡ true → z ≡ storedReference f → not (eqb z (p .tag)) ≡ wrong
-    checked e on ez = ap (λ (n : ℕ). not (eqb n (p .tag))) ez ∙ ap (λ (b : Bool). b && not (eqb (storedReference f) (p .tag))) (sym on) ∙ sym (by-reference e)
-
-    free : x ≡ y → r .reference ≡ false → false ≡ wrong
-    free e off = ap (λ (b : Bool). b && not (eqb (storedReference f) (p .tag))) (sym off) ∙ sym (by-reference e)
+    by-reference : {b : Bool} → x ≡ y → b ≡ referenceWrong r p f → b ≡ wrong
+    by-reference e eb = eb ∙ sym (by-both ∙ rw (eq-eqb (storedGuard f) (guard d) (sym ex ∙ e ∙ ey)) refl)
 
 returns : tie.Need-returns
 returns c =
@@ -53,16 +47,9 @@ returns c =
 
 returns-2 : tie.Need-returns-2
 returns-2 c =
-    let on = c .before .before .before .before .before in
-    let pre = on .before .before .before .pre .1 in
-    checked _ _ _ _ (pre .1) (pre .2) (on .stored-guard .ensures) (c .before .before .before .before .guard-through-rows .ensures) (c .before .before .before .if1 .left)
-    (c .before .before .if2 .taken) (c .before .stored-reference .ensures)
-
-returns-3 : tie.Need-returns-3
-returns-3 c =
     let on = c .before .before .before in
     let pre = on .before .before .before .pre .1 in
-    free _ _ _ _ (pre .1) (pre .2) (on .stored-guard .ensures) (c .before .before .guard-through-rows .ensures) (c .before .if1 .left) (c .if2 .left)
+    by-reference _ _ _ _ (pre .1) (pre .2) (on .stored-guard .ensures) (c .before .before .guard-through-rows .ensures) (c .before .if1 .left) (c .reference-wrong .ensures)
 
 pub wrong-pieces-spec : {M : Type 1} → statement M
 wrong-pieces-spec =
@@ -71,5 +58,4 @@ wrong-pieces-spec =
     (λ c κs. search needs) (λ c κs. search needs)
     returns
     (λ c κs. search needs)
-    returns-2
-    returns-3)
+    returns-2)
