@@ -3,7 +3,7 @@
 use mathlib.Core.Path.{◌≡◌, refl, sym, ap, ◌∙◌}
 use mathlib.Core.Logic.{◌↔◌, ◌⊎◌, inl, inr, ⊎_elim}
 use mathlib.Core.Bool.{Bool, true, false, not, ◌&&◌, cond, true≢false}
-use borrow.Author.Tests.{not_true, not-false}
+use borrow.Author.Tests.{not-true, not-false}
 use lib.Dec.{T}
 use Rattle.answer.specs.Answer.{is_good, or_else, refused_if}
 use Rattle.answer.specs.declared.Answer.{Answer}
@@ -45,7 +45,7 @@ or_else_assoc (Refused r) b c = refl
 -- `a` is what a rule's function answered, `g` whether that is good
 module _ (a rule rest : Answer) (g : Bool) (e : a ≡ rule) (t : g ≡ is_good a) where
   pub stops : not g ≡ true → or_else rule rest ≡ a
-  stops n = rw (← e, sym t ∙ not_true g n)
+  stops n = rw (← e, sym t ∙ not-true g n)
 
   pub goes_on : not g ≡ false → or_else rule rest ≡ rest
   goes_on n = rw (← e, sym t ∙ not-false g n)
@@ -56,7 +56,7 @@ module _ (a rule : Answer) (g : Bool) (e : a ≡ rule) (t : g ≡ is_good a) whe
   rule_good n = rw (← e) (sym t ∙ not-false g n)
 
   pub rule_refuses : not g ≡ true → is_good rule ≡ false
-  rule_refuses n = rw (← e) (sym t ∙ not_true g n)
+  rule_refuses n = rw (← e) (sym t ∙ not-true g n)
 
 -- a good answer of a ladder is good at every rung
 pub both_good : (a b : Answer) → is_good (or_else a b) ≡ true → (is_good a ≡ true) × (is_good b ≡ true)

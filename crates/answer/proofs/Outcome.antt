@@ -2,7 +2,7 @@
 -- Assumes nothing.
 use mathlib.Core.Path.{◌≡◌, refl, sym, ap, ◌∙◌}
 use mathlib.Core.Bool.{Bool, true, false, not, cond}
-use borrow.Author.Tests.{not_true, not-false}
+use borrow.Author.Tests.{not-true, not-false}
 use Rattle.answer.specs.Answer.{is_good}
 use Rattle.answer.specs.Outcome.{Outcome, outcome, leaving}
 use Rattle.answer.specs.declared.Answer.{Answer}
@@ -27,7 +27,7 @@ module _ {L : Type 0} (rule : Answer) (old new : L) where
   -- `a` is what the rule's function answered, `g` whether that is good
   module _ (a : Answer) (g : Bool) (e : a ≡ rule) (t : g ≡ is_good a) where
     pub hands_on : not g ≡ true → outcome a old ≡ leaving rule old new
-    hands_on n = rw (← e, sym t ∙ not_true g n)
+    hands_on n = rw (← e, sym t ∙ not-true g n)
 
     pub leaves_new : {l : L} → not g ≡ false → l ≡ new → outcome Good l ≡ leaving rule old new
     leaves_new n m = leaves (sym e ∙ good_is a (sym t ∙ not-false g n)) m

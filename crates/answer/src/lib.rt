@@ -1,4 +1,6 @@
 // The answers of document 01's table and of document 02, and the numbers and senses of the papers.
+#![tactic(auto)]
+
 ghost use Rattle.std.specs.Prelude.{◌≡◌};
 ghost use Rattle.answer.specs.Answer.{field_row, reason_row, number_of, address_of, place_of, is_good, refused_if, sense_numbered};
 

@@ -3,7 +3,7 @@
 use mathlib.Core.Path.{◌≡◌, sym, ap, ◌∙◌}
 use mathlib.Core.Bool.{true, false, not}
 use Prim.Native.Nat.{ℕ}
-use borrow.Author.Tests.{eqb-true, eqb-false, not_true, not-false}
+use borrow.Author.Tests.{eqb-true, eqb-false, not-true, not-false}
 use lib.Dec.{eqb, ltb}
 use Rattle.codes.specs.declared.Columns.{Columns}
 use Rattle.codes.specs.Codes.{columns_of}
@@ -17,7 +17,7 @@ module _ (k : Columns) (n : ℕ) (e : k ≡ columns_of n) where
   fields_told = ap (λ (x : Columns). x.fields) e ∙ fields_but_for_zero n
 
   pub with_fields : k.fields ≡ true → n ≡ 0 → ⊥
-  with_fields t = eqb-false n 0 (not_true _ (sym fields_told ∙ t))
+  with_fields t = eqb-false n 0 (not-true _ (sym fields_told ∙ t))
 
   pub without_fields : k.fields ≡ false → n ≡ 0
   without_fields t = eqb-true n 0 (not-false _ (sym fields_told ∙ t))

@@ -1,4 +1,6 @@
 // What a command asks for, by value; whether it compares; and what a 16-byte command with code 001 asks.
+#![tactic(auto)]
+
 ghost use Rattle.std.specs.Prelude.{◌≡◌};
 ghost use Rattle.command.specs.Sixteen.{sixteen};
 ghost use Rattle.command.specs.Compares.{compares};

@@ -1,4 +1,6 @@
 // Numbers in decimal and hexadecimal digits, printed to a lent buffer.
+#![tactic(auto)]
+
 ghost use Rattle.std.specs.Prelude.{◌≡◌, ◌+◌, ◌≤◌, ◌<◌, ◌^◌};
 ghost use Rattle.writing.specs.Laid.{Written};
 ghost use Rattle.digits.specs.Digits.{digit, hexadecimal, decimal_in, decimal};

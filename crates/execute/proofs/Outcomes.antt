@@ -5,7 +5,7 @@ use mathlib.Core.Bool.{Bool, true, false, not}
 use mathlib.Core.List.{List}
 use Prim.Native.Nat.{ℕ, ◌+◌, ◌-◌, ◌≤◌}
 use native.Mathlib.Omega.{arith}
-use borrow.Author.Tests.{eqb-false, not_true, not-false}
+use borrow.Author.Tests.{eqb-false, not-true, not-false}
 use lib.ListN.{length, take, drop}
 use Rattle.words.specs.Parts.{put}
 use Rattle.words.proofs.BigEndian.{part_length}
@@ -55,7 +55,7 @@ module _ {d : Description} {c : Command} {l : Lengths} (r : Ready d c l) where
     where
       by : (o : Operation) → c.operation ≡ o → checks_on Sent o c ≡ true → l.buffer ≡ span_of d c.length
       by Read e x = never x
-      by Write e x = r.room ∙ room_moved d c (ap is_verify e) ∙ moved_span d c r.described (eqb-false c.code 0 (not_true _ x))
+      by Write e x = r.room ∙ room_moved d c (ap is_verify e) ∙ moved_span d c r.described (eqb-false c.code 0 (not-true _ x))
       by Verify e x =
           let w = as_write_lem c x in
           r.room ∙ room_compared d c w.comparing ∙ moved_span d c r.described w.fields
@@ -108,7 +108,7 @@ module _ (d : Description) (c : Command) (segment buffer stored : List ℕ) (a :
 
   pub refused_performed : not g ≡ true → outcome a (lent segment buffer) ≡ performed d c (lent segment buffer)
   unfolding performed
-  refused_performed n = rw (← verdict_is, sym t ∙ not_true g n)
+  refused_performed n = rw (← verdict_is, sym t ∙ not-true g n)
 
   pub good_performed : not g ≡ false → (left : Lent) → left ≡ moved d c (lent segment buffer) → outcome a left ≡ performed d c (lent segment buffer)
   unfolding performed

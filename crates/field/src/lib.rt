@@ -1,4 +1,6 @@
 // The eight field bytes behind an interval's data, read and written.
+#![tactic(auto)]
+
 ghost use Rattle.std.specs.Prelude.{◌≡◌, length};
 ghost use Rattle.field.specs.Field.{stored_guard, stored_application, stored_reference, field_bytes};
 

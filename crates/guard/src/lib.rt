@@ -1,5 +1,7 @@
 // The guard of an interval's data, by long division, through a table of 256 numbers, and two bytes at a time through rows of
 // sixteen; and copying the data with it.
+#![tactic(auto)]
+
 ghost use Rattle.std.specs.Prelude.{◌≡◌, ◌+◌, ◌*◌, ◌%◌, ◌<◌, length, take};
 ghost use Rattle.guard.specs.Guard.{guard, divide, take_off, terms};
 ghost use Rattle.guard.specs.Table.{Right, table_step};

@@ -6,7 +6,7 @@ use mathlib.Core.List.{List}
 use Prim.Native.Nat.{ℕ, ◌-◌, ◌≤◌}
 use native.Mathlib.Nat.{zero-add, le_refl}
 use native.Mathlib.Omega.{arith}
-use borrow.Author.Tests.{not_true, not-false}
+use borrow.Author.Tests.{not-true, not-false}
 use lib.ListN.{length, take, drop, length-drop}
 use lib.Seq.{take_all}
 use Rattle.answer.specs.Answer.{is_good}
@@ -31,7 +31,7 @@ list_as input {o = o} e w =
 module _ (input : List ℕ) {a : Answer} {b : Bool} (e : a ≡ record_answer input) (t : b ≡ is_good a) where
   pub refused_is : not b ≡ true → refused_text a ≡ listing input
   unfolding listing
-  refused_is w = rw (sym e, sym t ∙ not_true b w)
+  refused_is w = rw (sym e, sym t ∙ not-true b w)
 
   pub list_whole : not b ≡ false → Whole input
   list_whole w = record_whole input (ap is_good (sym e) ∙ sym t ∙ not-false b w)

@@ -7,7 +7,7 @@ use mathlib.Core.List.{List}
 use Prim.Native.Nat.{ℕ, suc, ◌+◌, ◌*◌, ◌/◌, ◌%◌, ◌^◌, ◌≤◌, ◌<◌}
 use native.Mathlib.Nat.{mod-lt, suc-mul, mul-le-mul_right, div-add-mod', div-lt_iff_lt-mul}
 use native.Mathlib.Omega.{arith}
-use borrow.Author.Tests.{eqb-true, eqb-false, not_true, not-false}
+use borrow.Author.Tests.{eqb-true, eqb-false, not-true, not-false}
 use lib.Dec.{eqb, lit<, lit≤}
 use lib.ListN.{length, get_or}
 use Rattle.answer.specs.Answer.{is_good}
@@ -101,7 +101,7 @@ module _ (d : Description) (s : List ℕ) (g : Segment d) (long : length_of d �
   listed : (d.kind ≡ 0 → ⊥) → faulty_at d s j ≡ true → FaultyLine d s j x
   unfolding line_at
   listed n e =
-      let w = block_wrong d s j (not_true _ (sym (fault_judged d s j n) ∙ e)) in
+      let w = block_wrong d s j (not-true _ (sym (fault_judged d s j n) ∙ e)) in
       let line = line_at_lem d s g j w.0 w.1.0 long n block x in
       let faulty_line : faulty (line_at d s j w.0).state ≡ 0 → ⊥ = λ z. not_both _ ((faulty_exactly d s g j w.0 w.1.0).1 z) w.1.1 in
       record {

@@ -1,4 +1,6 @@
 // Numbers in bytes, exclusive or, copying and filling, two tests joined: what knows nothing of disks.
+#![tactic(auto)]
+
 ghost use Rattle.std.specs.Prelude.{◌≡◌, ◌&&◌, ◌||◌, ◌+◌, ◌≤◌, length, replicate};
 ghost use Rattle.words.specs.BigEndian.{number, number_at, bytes};
 ghost use Rattle.words.specs.Parts.{put};

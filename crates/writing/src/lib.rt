@@ -1,4 +1,6 @@
 // Bytes and words, printed to a lent buffer: of the text as much as there is room for, and the place after it handed back.
+#![tactic(auto)]
+
 ghost use Rattle.std.specs.Prelude.{◌∷◌, [], ◌+◌, ◌≤◌, ◌<◌, ◌^◌, length};
 ghost use Rattle.writing.specs.Laid.{Written};
 

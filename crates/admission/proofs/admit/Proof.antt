@@ -4,7 +4,7 @@ use mathlib.Core.Path.{◌≡◌, sym, ◌∙◌}
 use mathlib.Core.Bool.{Bool, true, false, not}
 use mathlib.Core.List.{List}
 use Prim.Native.Nat.{ℕ}
-use borrow.Author.Tests.{not_true, not-false}
+use borrow.Author.Tests.{not-true, not-false}
 use Rattle.answer.specs.Answer.{is_good}
 use Rattle.answer.specs.declared.Answer.{Answer}
 use Rattle.answer.specs.declared.Answer.TheVariants as answers
@@ -26,7 +26,7 @@ use Rattle.admission.proofs.admit.Tie as tie
 module _ (d : Description) (l : Lengths) (command : List ℕ) (a : Answer) (g : Bool) (e : a ≡ segment_rules d l.segment) (t : g ≡ is_good a) where
   unfit : not g ≡ true → admitted d l command ≡ Refused a
   unfolding admitted
-  unfit n = rw (← e, sym t ∙ not_true g n)
+  unfit n = rw (← e, sym t ∙ not-true g n)
 
   on-refused : {r : Reason} → not g ≡ false → decode command ≡ decoded.Refused r → admitted d l command ≡ Refused (answers.Refused r)
   unfolding admitted

@@ -6,7 +6,7 @@ use mathlib.Core.List.{List}
 use Prim.Native.Nat.{ℕ, ◌+◌, ◌*◌, ◌-◌, ◌<◌, ◌≤◌}
 use native.Mathlib.Nat.{zero-add, add-zero, mul_assoc, le_refl, mul-le-mul}
 use native.Mathlib.Omega.{arith}
-use borrow.Author.Tests.{not_true, not-false}
+use borrow.Author.Tests.{not-true, not-false}
 use lib.ListN.{length, take, drop, length-drop}
 use lib.Seq.{drop-drop}
 use Rattle.words.proofs.BigEndian.{part_length}
@@ -74,7 +74,7 @@ module _ {k : Cut} {address count : ℕ} {stored sent : List ℕ} {left i j : �
         ∙ g.rest)
 
     stop : not b ≡ true → answers.BlockDiffers (address + (count - left)) ≡ all k address count stored sent
-    stop n = rw (not_true b n) at turned
+    stop n = rw (not-true b n) at turned
 
     turn : not b ≡ false → Going k address count stored sent (left - 1) (i + block k) (j + each k)
     turn n =

@@ -6,7 +6,7 @@ use mathlib.Core.List.{List}
 use Prim.Native.Nat.{ℕ, ◌+◌, ◌*◌, ◌-◌, ◌<◌, ◌≤◌}
 use native.Mathlib.Nat.{zero-add}
 use native.Mathlib.Omega.{arith}
-use borrow.Author.Tests.{not_true, not-false}
+use borrow.Author.Tests.{not-true, not-false}
 use lib.ListN.{length, take, drop, length-drop, drop_of_length-le}
 use lib.Seq.{drop-drop}
 use Rattle.words.proofs.BigEndian.{part_length}
@@ -52,7 +52,7 @@ module _ {k : Cut} {stored sent : List ℕ} {left i j : ℕ} (g : Going k stored
         ∙ g.rest)
 
     stop : not b ≡ true → false ≡ same (parts_of k k.pieces stored) sent
-    stop n = rw (not_true b n) at turned
+    stop n = rw (not-true b n) at turned
 
     turn : not b ≡ false → Going k stored sent (left - 1) (i + k.stride) (j + k.size)
     turn n =

@@ -4,7 +4,7 @@ use mathlib.Core.Path.{◌≡◌, sym, ◌∙◌}
 use mathlib.Core.Bool.{Bool, true, false, not, cond}
 use Prim.Native.Nat.{ℕ}
 use lib.Dec.{eqb}
-use borrow.Author.Tests.{eq-eqb, ne_eqb, not_true, not-false}
+use borrow.Author.Tests.{eq-eqb, ne_eqb, not-true, not-false}
 use Rattle.answer.specs.declared.Reason.TheVariants.{FieldInvalid}
 use Rattle.format.specs.declared.Choice.{Choice}
 use Rattle.format.specs.Choice.{sentences, supports, by_usage, illegal}
@@ -39,7 +39,7 @@ unfolding sentences
 returns-2 c = c.illegal.ensures ∙ rw c.before.if2.true
 
 returns-3 : tie.Need-returns-3
-returns-3 c = c.illegal2.ensures ∙ sym (refuses _ _ _ _ c.before.before.before.before.if1.false c.before.before.before.if2.false (sym c.before.before.supports.ensures ∙ not_true _ c.before.if3.true))
+returns-3 c = c.illegal2.ensures ∙ sym (refuses _ _ _ _ c.before.before.before.before.if1.false c.before.before.before.if2.false (sym c.before.before.supports.ensures ∙ not-true _ c.before.if3.true))
 
 returns-4 : tie.Need-returns-4
 returns-4 c = c.by-usage2.ensures ∙ sym (goes_on _ _ _ _ c.before.before.before.before.before.if1.false c.before.before.before.before.if2.false (sym c.before.before.before.supports.ensures ∙ not-false _ c.before.before.if3.false) ∙ rw (eq-eqb _ 2 c.before.if4.true))

@@ -1,7 +1,7 @@
 -- `judge::judge_blocks`: the blocks that are left give, from the place reached, what all of them give; each is judged by its own bytes.
 -- Assumes nothing.
 use Rattle.std.proofs.Common.{◌≡◌, ℕ, suc, ◌+◌, ◌-◌, ◌*◌, ◌%◌, ◌^◌, ◌<◌, ◌≤◌, Bool, true, false, not, List, length, take, drop, sym, refl, ap, ◌∙◌, zero-le, le_refl, add-zero, add_assoc, add-suc, suc-mul, zero-mul, add-one, arith, rules}
-use borrow.Author.Tests.{not_true, not-false}
+use borrow.Author.Tests.{not-true, not-false}
 use Rattle.words.proofs.Parts.{part_at}
 use Rattle.answer.specs.Answer.{is_good}
 use Rattle.answer.specs.declared.Answer.{Answer}
@@ -66,7 +66,7 @@ module _ {r : Rules} {count : ℕ} {p : Place} {s : List ℕ} {left tag : ℕ} (
     judged = rw w at m ∙ ap (judge_block r _) (part_at (reach r count left) _ s) ∙ own_block r _ (drop (reach r count left) s)
 
     stop : not b ≡ true → a ≡ judge_blocks r count p s
-    stop f = first_stop (judge_block r) (next_block r.intervals) _ left (reach r count left) _ s a _ h judged (sym t ∙ not_true b f) g.same
+    stop f = first_stop (judge_block r) (next_block r.intervals) _ left (reach r count left) _ s a _ h judged (sym t ∙ not-true b f) g.same
 
     turn : {there : Place} → not b ≡ false → there ≡ next_block r.intervals here → Going r count p s (left - 1) there.tag
     turn {there} o e =

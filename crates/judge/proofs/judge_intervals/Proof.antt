@@ -1,7 +1,7 @@
 -- `judge::judge_intervals`: the intervals that are left give, from the place reached, what all of them give.
 -- Assumes nothing.
 use Rattle.std.proofs.Common.{◌≡◌, ℕ, ◌+◌, ◌-◌, ◌*◌, ◌%◌, ◌^◌, ◌<◌, ◌≤◌, Bool, true, false, not, List, length, take, drop, sym, refl, ap, ◌∙◌, ap₂, le_refl, add-zero, add_assoc, zero-add, arith, rules}
-use borrow.Author.Tests.{not_true, not-false}
+use borrow.Author.Tests.{not-true, not-false}
 use Rattle.answer.specs.Answer.{is_good}
 use Rattle.answer.specs.declared.Answer.{Answer}
 use Rattle.interval.specs.declared.Rules.{Rules}
@@ -42,7 +42,7 @@ module _ {r : Rules} {k : ℕ} {p : Place} {s : List ℕ} {left tag i : ℕ} (g 
     judged = rw w at m ∙ ap₂ (judge_pieces r (place_on p 0 (k - left) tag)) (data_part i r.size s) (field_part i r.size s)
 
     stop : not b ≡ true → a ≡ judge_intervals r k p s
-    stop f = first_stop (judge_interval r) next_interval (r.size + 8) left i _ s a _ h judged (sym t ∙ not_true b f) g.same
+    stop f = first_stop (judge_interval r) next_interval (r.size + 8) left i _ s a _ h judged (sym t ∙ not-true b f) g.same
 
     turn : {there : Place} → not b ≡ false → there ≡ next_interval here → Judging r k p s (left - 1) there.tag (i + r.size + 8)
     turn {there} o e =

@@ -1,14 +1,14 @@
 -- `transfer::compare`: a command that does not compare is good; of every other the blocks are compared.
 -- Assumes nothing.
 use mathlib.Core.Path.{refl, sym, ◌∙◌}
-use borrow.Author.Tests.{not_true, not-false}
+use borrow.Author.Tests.{not-true, not-false}
 use Rattle.transfer.proofs.Comparing.{compare_fits, compared_on, compared_none}
 use borrow.Author.Rules.{rules}
 use Rattle.transfer.proofs.compare.Statement.{statement}
 use Rattle.transfer.proofs.compare.Tie as tie
 
 returns : tie.Need-returns
-returns c = sym (compared_none _ _ _ _ (sym c.before.compares.ensures ∙ not_true _ c.if1.true))
+returns c = sym (compared_none _ _ _ _ (sym c.before.compares.ensures ∙ not-true _ c.if1.true))
 
 compare-blocks-requires : tie.Need-compare-blocks-requires
 compare-blocks-requires c κs =

@@ -1,0 +1,9 @@
+-- `digits::digit`: figures below ten, letters above.
+use Rattle.digits.proofs.Digits.{digit_low, digit_high}
+use Rattle.digits.proofs.digit.Goals as goal
+
+pub returns-then-n-lt10 : goal.returns-then-n-lt10
+returns-then-n-lt10 c = digit_low _ c.if-n-lt10.true
+
+pub returns : goal.returns
+returns c = digit_high _ c.if-n-lt10.false

@@ -1,0 +1,54 @@
+-- `guard::guard_through_rows`: the bytes that are left, two by two, give from the remainder so far what all of them give.
+use mathlib.Core.Path.{◌≡◌, sym, ap, ◌∙◌}
+use mathlib.Core.List.{List}
+use Prim.Native.Nat.{ℕ, ◌+◌, ◌-◌, ◌%◌, ◌≤◌, ◌<◌}
+use native.Mathlib.Omega.{arith}
+use lib.ListN.{length, take, drop, take-append-drop}
+use Rattle.guard.specs.Guard.{guard}
+use Rattle.guard.specs.Remainder.{guard_from}
+use Rattle.guard.proofs.ByRows.{rows_next}
+use Rattle.guard.proofs.Laws.{guard_lt, guard_append}
+use Rattle.guard.proofs.Remainder.{guard_end}
+use Rattle.guard.proofs.guard_through_rows.Invariants.{Going}
+use Rattle.guard.proofs.guard_through_rows.Goals as goal
+
+two-left : (n i : ℕ) → (n - i) % 2 ≡ 0 → i < n → i + 2 ≤ n
+two-left n i e h = omega arith
+
+still-even : (n i : ℕ) → (n - i) % 2 ≡ 0 → i + 2 ≤ n → (n - (i + 2)) % 2 ≡ 0
+still-even n i e h = omega arith
+
+even-left : (n : ℕ) → (n - n % 2) % 2 ≡ 0
+even-left n = omega arith
+
+most : (n : ℕ) → n % 2 ≤ n
+most n = omega arith
+
+begins : (s : List ℕ) (r : ℕ) → r ≡ guard (take (length s % 2) s) → Going s r (length s % 2)
+begins s r e =
+    record {
+      fewer = most (length s);
+      even = even-left (length s);
+      small = rw e (guard_lt _);
+      same = rw e (sym (guard_append _ _) ∙ ap guard (take-append-drop (length s % 2) s));
+    }
+
+pub loop-i-init : goal.loop-i-init
+loop-i-init c = begins _ _ c.odd_first-r.ensures
+
+pub read2-v-requires : goal.read2-v-requires
+read2-v-requires c = two-left _ _ c.loop-i.invariant.even c.loop-i-test.true
+
+pub loop-i-preserved : goal.loop-i-preserved
+loop-i-preserved c =
+    let turn = c in
+    let l = turn.loop-i in
+    let start = turn in
+    let s = start.args.«data».now in
+    let byte = turn.type_inv.data in
+    let here = two-left _ _ l.invariant.even turn.loop-i-test.true in
+    let next = rows_next _ start.requires s l.r _ l.i _ _ l.invariant.small here (byte l.i).fits (byte (l.i + 1)).fits c.read2-v.ensures c.rows_step-r.ensures l.invariant.same in
+    record { fewer = omega arith; even = still-even _ _ l.invariant.even here; small = next.0; same = next.1 }
+
+pub returns : goal.returns
+returns c = guard_end _ _ c.loop-i.i _ c.loop-i-test.false c.loop-i.invariant.same

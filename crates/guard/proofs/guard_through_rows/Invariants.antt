@@ -1,0 +1,25 @@
+-- `guard::guard_through_rows`: the bytes that are left, two by two, give from the remainder so far what all of them give.
+use mathlib.Core.Path.{◌≡◌, sym, ap, ◌∙◌}
+use mathlib.Core.List.{List}
+use Prim.Native.Nat.{ℕ, ◌+◌, ◌-◌, ◌%◌, ◌≤◌, ◌<◌}
+use native.Mathlib.Omega.{arith}
+use lib.ListN.{length, take, drop, take-append-drop}
+use Rattle.guard.specs.Guard.{guard}
+use Rattle.guard.specs.Remainder.{guard_from}
+use Rattle.guard.proofs.ByRows.{rows_next}
+use Rattle.guard.proofs.Laws.{guard_lt, guard_append}
+use Rattle.guard.proofs.Remainder.{guard_end}
+use Rattle.guard.proofs.guard_through_rows.Given as goal
+
+-- an even number of bytes is left
+pub record Going (s : List ℕ) (r i : ℕ) : Type 0 where
+  pub fewer : i ≤ length s
+  pub even : (length s - i) % 2 ≡ 0
+  pub small : r < 65536
+  pub same : guard_from r (drop i s) ≡ guard s
+
+abbrev pub invariant-loop-i : goal.invariant-loop-i
+invariant-loop-i l = Going l.«data» l.r l.i
+
+abbrev pub decreases-loop-i : goal.decreases-loop-i
+decreases-loop-i l = length l.«data» - l.i
