@@ -10,7 +10,7 @@ use refusal::Lengths;
 use segment::Description;
 
 // What admission decides: the refusal, or the command that goes on.
-#[derive(Drop)]
+#[derive(Clone, Copy)]
 pub enum Admitted {
     Refused(Answer),
     Go(Command),

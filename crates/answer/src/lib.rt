@@ -5,7 +5,7 @@ ghost use Rattle.std.specs.Prelude.{◌≡◌};
 ghost use Rattle.answer.specs.Answer.{field_row, reason_row, number_of, address_of, place_of, is_good, refused_if, sense_numbered};
 
 // A field of an interval.
-#[derive(Drop)]
+#[derive(Clone, Copy)]
 pub enum Field {
     Guard,
     Application,
@@ -13,7 +13,7 @@ pub enum Field {
 }
 
 // Why a call is refused, other than for an interval's field. The header has the same names.
-#[derive(Drop)]
+#[derive(Clone, Copy)]
 pub enum Reason {
     DescriptionBad,
     SegmentLengthWrong,
@@ -28,7 +28,7 @@ pub enum Reason {
     TransferTooLarge,
 }
 
-#[derive(Drop)]
+#[derive(Clone, Copy)]
 pub enum Answer {
     Good,
     // the field whose check failed, the block's address and the interval's place in the transfer

@@ -1,4 +1,6 @@
 // Moving a transfer's bytes block by block.
+#![tactic(auto)]
+
 ghost use Rattle.std.specs.Prelude.{◌≡◌, ◌+◌, ◌*◌, ◌≤◌, length};
 ghost use Rattle.words.specs.Parts.{put};
 ghost use Rattle.blocks.specs.Blocks.{user_data};

@@ -1,4 +1,6 @@
 // What each protect code chooses: document 01's table, in eight rows, looked up by the code. No other crate asks it yet.
+#![tactic(auto)]
+
 ghost use Rattle.std.specs.Prelude.{◌≡◌};
 ghost use Rattle.codes.specs.Codes.{columns_of};
 ghost use Rattle.codes.specs.Rows.{named, InOrder};
@@ -17,7 +19,7 @@ const CODES: [u8; 8] = [
 ];
 
 // A row, its columns by name; `fields` is 'moved with fields'.
-#[derive(Drop)]
+#[derive(Clone, Copy)]
 pub struct Columns {
     pub refused: bool,
     pub fields: bool,

@@ -5,7 +5,7 @@ ghost use Rattle.std.specs.Prelude.{◌≡◌};
 ghost use Rattle.command.specs.Sixteen.{sixteen};
 ghost use Rattle.command.specs.Compares.{compares};
 
-#[derive(Drop)]
+#[derive(Clone, Copy)]
 pub enum Operation {
     Read,
     Write,
@@ -13,7 +13,7 @@ pub enum Operation {
 }
 
 // What a command asks. The tags and the mask are those of a 32-byte command, which is `long`; 0 in others.
-#[derive(Drop)]
+#[derive(Clone, Copy)]
 pub struct Command {
     pub operation: Operation,
     pub long: bool,

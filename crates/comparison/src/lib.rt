@@ -6,7 +6,7 @@ ghost use Rattle.comparison.specs.Inner.{parts_of, Pair};
 use answer::Answer;
 
 // What of a stored block is compared: so many pieces of `size` bytes, each `stride` bytes behind the one before.
-#[derive(Drop)]
+#[derive(Clone, Copy)]
 pub struct Cut {
     pub pieces: usize,
     pub size: usize,

@@ -1,4 +1,6 @@
 // From a command's bytes to what it asks for, by value; or the refusal.
+#![tactic(auto)]
+
 ghost use Rattle.std.specs.Prelude.{◌≡◌, length};
 ghost use Rattle.decoding.specs.Commands.{byte_zero, service_action, find, check_bits, recognise, laid, layout_of, is_long, fields, decode_as, decode};
 
@@ -6,7 +8,7 @@ use answer::Reason;
 use command::{Command, Operation};
 
 // The four sizes of a command.
-#[derive(Drop)]
+#[derive(Clone, Copy)]
 pub enum Form {
     Ten,
     Twelve,
@@ -14,7 +16,7 @@ pub enum Form {
     ThirtyTwo,
 }
 
-#[derive(Drop)]
+#[derive(Clone, Copy)]
 pub enum Named {
     Known(Operation, Form),
     Unknown(Reason),
@@ -22,7 +24,7 @@ pub enum Named {
 
 // Where the fields of a form stand: its bytes, the address and the bytes it has, the length and the bytes it has, the
 // protect byte.
-#[derive(Drop)]
+#[derive(Clone, Copy)]
 pub struct Layout {
     pub bytes: usize,
     pub address: usize,
@@ -32,7 +34,7 @@ pub struct Layout {
     pub protect: usize,
 }
 
-#[derive(Drop)]
+#[derive(Clone, Copy)]
 pub enum Decoded {
     Served(Command),
     Refused(Reason),

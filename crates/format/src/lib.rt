@@ -5,7 +5,7 @@ ghost use Rattle.format.specs.Choice.{choice_of, in_range, sentences, supports, 
 use answer::{Answer, Reason};
 
 // The answer, and the type that goes with answer 0; a refusal has type 0.
-#[derive(Drop)]
+#[derive(Clone, Copy)]
 pub struct Choice {
     pub answer: Answer,
     pub kind: u64,

@@ -1,4 +1,6 @@
 // The guards of a run of intervals, laid end to end: the table is lent to all of them.
+#![tactic(auto)]
+
 ghost use Rattle.std.specs.Prelude.{◌≡◌, ◌*◌, length};
 ghost use Rattle.answer.specs.Outcome.{outcome};
 ghost use Rattle.guard.specs.Table.{Right};

@@ -6,7 +6,7 @@ ghost use Rattle.insertion.specs.Insertion.{with_field, stored_block, stored_blo
 
 // What goes into the fields beside the guard: the application tag, the reference tag of the next interval, and by how much
 // it goes on.
-#[derive(Drop)]
+#[derive(Clone, Copy)]
 pub struct Marks {
     pub application: u16,
     pub reference: u32,

@@ -1,4 +1,6 @@
 // One interval: whether it has the escape, and its fields against what is expected of them. The first wrong field is named.
+#![tactic(auto)]
+
 ghost use Rattle.std.specs.Prelude.{◌≡◌, ◌+◌, ◌*◌, length};
 ghost use Rattle.guard.specs.Table.{Right};
 ghost use Rattle.interval.specs.Interval.{escapes, any_escapes, guard_wrong, application_wrong, reference_wrong, judge_pieces};
@@ -6,7 +8,7 @@ ghost use Rattle.interval.specs.Interval.{escapes, any_escapes, guard_wrong, app
 use answer::{Answer, Field};
 
 // What lifts all checks from a block: nothing, an application tag FFFFh, or that with a reference tag FFFFFFFFh.
-#[derive(Drop)]
+#[derive(Clone, Copy)]
 pub enum Escape {
     Never,
     Tag,
@@ -15,7 +17,7 @@ pub enum Escape {
 
 // How intervals are judged: those of a block and their data bytes; which fields are checked; the expected application tag
 // and its mask; the escape.
-#[derive(Drop)]
+#[derive(Clone, Copy)]
 pub struct Rules {
     pub intervals: usize,
     pub size: usize,
@@ -28,7 +30,7 @@ pub struct Rules {
 }
 
 // Where judging stands: the block's address, the interval's place in the transfer, the reference tag expected there.
-#[derive(Drop)]
+#[derive(Clone, Copy)]
 pub struct Place {
     pub address: u64,
     pub interval: u64,

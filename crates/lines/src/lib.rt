@@ -8,7 +8,7 @@ use answer::{Answer, Field};
 use interval::{Place, Rules};
 
 // The state of an interval's line.
-#[derive(Drop)]
+#[derive(Clone, Copy)]
 pub enum State {
     Skipped,
     Guard,
@@ -17,7 +17,7 @@ pub enum State {
 }
 
 // A line of the listing, before it is printed.
-#[derive(Drop)]
+#[derive(Clone, Copy)]
 pub struct Line {
     pub address: u64,
     pub interval: u64,

@@ -1,4 +1,6 @@
 // The exclusive or of parts: made, a lost one rebuilt, corrected.
+#![tactic(auto)]
+
 ghost use Rattle.std.specs.Prelude.{◌≡◌, ◌+◌, ◌*◌, ◌≤◌, ◌<◌, length, take, drop};
 ghost use Rattle.words.specs.Xor.{xors};
 ghost use Rattle.parity.specs.Parity.{rebuilt_of};

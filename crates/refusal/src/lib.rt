@@ -8,7 +8,7 @@ use command::{Command, Operation};
 use segment::Description;
 
 // The lengths of what is lent to a command.
-#[derive(Drop)]
+#[derive(Clone, Copy)]
 pub struct Lengths {
     pub segment: usize,
     pub buffer: usize,

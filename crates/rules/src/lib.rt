@@ -9,7 +9,7 @@ use segment::Description;
 use sides::Side;
 
 // Which fields a protect code chooses.
-#[derive(Drop)]
+#[derive(Clone, Copy)]
 pub struct Columns {
     pub guard: bool,
     pub application: bool,

@@ -17,7 +17,7 @@ use segment::Description;
 use sides::Side;
 
 // The blocks with a fault so far, and the address of the first of them; 0 where there is none.
-#[derive(Drop)]
+#[derive(Clone, Copy)]
 pub struct Found {
     pub faults: u64,
     pub first: u64,
@@ -25,7 +25,7 @@ pub struct Found {
 
 // What a call hands back: the answer, the new place, the blocks judged in this call, how many had a fault, and the address of
 // the first of these; 0 where none had.
-#[derive(Drop)]
+#[derive(Clone, Copy)]
 pub struct Scrubbed {
     pub answer: Answer,
     pub next: u64,

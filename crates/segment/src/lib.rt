@@ -1,4 +1,6 @@
 // The description of a segment, by value: which descriptions are segments, the sizes that follow, and where blocks lie.
+#![tactic(auto)]
+
 ghost use Rattle.std.specs.Prelude.{◌≡◌, ◌+◌, ◌^◌, ◌≤◌, leb};
 ghost use Rattle.segment.specs.Segment.{described, is_segment, Segment, intervals_of, size_of, stored_of, length_of};
 ghost use Rattle.segment.specs.Rules.{description_rule, segment_rules};
@@ -7,7 +9,7 @@ ghost use Rattle.segment.specs.Places.{range_rule, place_rule, offset_of, span_o
 use answer::{Answer, Reason};
 
 // Type P, block length B, exponent e, first address W, count N and ATO, as wide as a caller can pass them.
-#[derive(Drop)]
+#[derive(Clone, Copy)]
 pub struct Description {
     pub kind: u64,
     pub block: u64,

@@ -8,7 +8,7 @@ use interval::{Place, Rules};
 use lines::State;
 
 // Where printing stands: the place in the buffer, and the lines so far: all, those with a fault, those skipped.
-#[derive(Drop)]
+#[derive(Clone, Copy)]
 pub struct Sheet {
     pub at: usize,
     pub lines: u64,

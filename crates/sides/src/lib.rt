@@ -6,7 +6,7 @@ use command::{Command, Operation};
 use segment::Description;
 
 // What is judged: the blocks that a command sends, or the stored ones.
-#[derive(Drop)]
+#[derive(Clone, Copy)]
 pub enum Side {
     Sent,
     Stored,

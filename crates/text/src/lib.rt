@@ -1,4 +1,6 @@
 // A number with a byte behind it, or between a word and a byte, printed to a lent buffer.
+#![tactic(auto)]
+
 ghost use Rattle.std.specs.Prelude.{◌∷◌, [], ◌++◌, ◌+◌, ◌≤◌, ◌<◌, ◌^◌, length};
 ghost use Rattle.writing.specs.Laid.{Written};
 ghost use Rattle.digits.specs.Digits.{hexadecimal, decimal};

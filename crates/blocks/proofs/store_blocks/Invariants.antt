@@ -1,0 +1,17 @@
+-- `blocks::store_blocks`: one block after the other is put in its place.
+use mathlib.Core.Path.{refl, sym, ◌∙◌}
+use mathlib.Core.List.{List}
+use Prim.Native.Nat.{ℕ, ◌+◌, ◌*◌}
+use native.Mathlib.Omega.{arith}
+use lib.ListN.{take}
+use Rattle.words.specs.Parts.{put}
+use Rattle.blocks.proofs.Filling.{Filling, within, room, turn, done, begin}
+use Rattle.words.proofs.Parts.{part_at}
+use Rattle.blocks.proofs.Pieces.{runs_same}
+use Rattle.blocks.proofs.store_blocks.Given as goal
+
+abbrev pub invariant-loop-left : goal.invariant-loop-left
+invariant-loop-left z = Filling (λ (u : ℕ) (l : List ℕ). take z.stored l) (λ u. u) z.stored z.stored (z.at + z.count * z.stored) z.s z.fn.segment (put z.at z.s z.fn.segment) z.left z.i z.a 0 z.segment
+
+abbrev pub decreases-loop-left : goal.decreases-loop-left
+decreases-loop-left l = l.left

@@ -1,0 +1,28 @@
+-- `guards::fill_guards`: the guards that stand, and those of the intervals that are left, make up all of them.
+use mathlib.Core.Path.{◌≡◌, refl, ap, ◌∙◌}
+use mathlib.Core.List.{List, ◌++◌}
+use Prim.Native.Nat.{ℕ, ◌+◌, ◌*◌, ◌≤◌, ◌<◌, ◌-◌}
+use native.Mathlib.Nat.{zero-add}
+use native.Mathlib.Omega.{arith}
+use lib.ListN.{length, take, drop}
+use Rattle.words.specs.BigEndian.{bytes}
+use Rattle.words.specs.Parts.{put}
+use Rattle.words.specs.Runs.{runs}
+use Rattle.words.proofs.BigEndian.{bytes_length}
+use Rattle.words.proofs.Parts.{put_length}
+use Rattle.words.proofs.Runs.{peel_within, peel_rest, peel_end, fill_next, fill_end}
+use Rattle.guard.specs.Guard.{guard}
+use Rattle.guards.specs.Guards.{guard_of_first, guards_of}
+use Rattle.guards.proofs.fill_guards.Given as goal
+
+pub record Going (s : List ℕ) (size count : ℕ) (out₀ out : List ℕ) (left i at : ℕ) : Type 0 where
+  pub kept : length out ≡ length out₀
+  pub from : i + left * size ≡ length s
+  pub to : at + left * 2 ≡ length out₀
+  pub made : take at out ++ runs (guard_of_first size) (λ t. t) size left 0 (drop i s) ≡ guards_of size count s
+
+abbrev pub invariant-loop-left : goal.invariant-loop-left
+invariant-loop-left l = Going l.«data» l.size l.count l.fn.out l.out l.left l.i l.at
+
+abbrev pub decreases-loop-left : goal.decreases-loop-left
+decreases-loop-left l = l.left

@@ -1,0 +1,23 @@
+-- `parity::join`: what is made is as much of the whole, a stretch more with each turn.
+use mathlib.Core.Path.{◌≡◌, refl, sym, ap, ap₂, ◌∙◌}
+use mathlib.Core.List.{List, ◌++◌, append_assoc}
+use Prim.Native.Nat.{ℕ, ◌+◌, ◌≤◌, ◌<◌, ◌-◌}
+use native.Mathlib.Omega.{arith}
+use lib.ListN.{length, take, drop, length-append}
+use lib.Seq.{take-add, take_at, take_all, length-take-le}
+use borrow.Rule.Slice.PartMut.{put_mid, mid_of, mid_len, same_len_mid}
+use Rattle.parity.specs.Stretch.{joined}
+use Rattle.parity.proofs.Stretches.{joined_length}
+use Rattle.parity.proofs.join.Given as goal
+
+pub record Going (whole out₀ out : List ℕ) (at : ℕ) : Type 0 where
+  pub kept : length out ≡ length out₀
+  pub sized : length whole ≡ length out₀
+  pub within : at ≤ length out₀
+  pub made : take at out ≡ take at whole
+
+abbrev pub invariant-loop-at : goal.invariant-loop-at
+invariant-loop-at l = Going (joined (length l.fn.out) l.m l.before l.n l.after) l.fn.out l.out l.at
+
+abbrev pub decreases-loop-at : goal.decreases-loop-at
+decreases-loop-at l = length l.fn.out - l.at

@@ -1,0 +1,14 @@
+-- `segment::size`: there is an interval to divide by.
+use Rattle.segment.specs.Segment.{size_of}
+use Rattle.segment.proofs.Laws.{sizes}
+use Rattle.segment.proofs.size.Goals as goal
+
+pub intervals-requires : goal.intervals-requires
+intervals-requires c = c.requires
+
+pub nonzero_div-result : goal.nonzero_div-result
+nonzero_div-result c = rw c.intervals.ensures (sizes _ c.requires).intervals_least
+
+pub returns : goal.returns
+unfolding size_of
+returns c = rw c.intervals.ensures
