@@ -1,4 +1,6 @@
 // Comparing stored blocks with those sent, where both lie: the first block that differs is named.
+#![tactic(auto)]
+
 ghost use Rattle.std.specs.Prelude.{◌≡◌, ◌+◌, ◌*◌, ◌^◌, ◌≤◌, length};
 ghost use Rattle.comparison.specs.Comparison.{same, compare_blocks};
 ghost use Rattle.comparison.specs.Inner.{parts_of, Pair};

@@ -1,4 +1,6 @@
 // Filling a fresh segment.
+#![tactic(auto)]
+
 ghost use Rattle.std.specs.Prelude.{◌≡◌, ◌*◌, ◌+◌, length};
 ghost use Rattle.answer.specs.Outcome.{outcome};
 ghost use Rattle.filling.specs.Fresh.{filled, fresh_interval, fresh_intervals};

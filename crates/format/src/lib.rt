@@ -1,4 +1,6 @@
 // The format choice.
+#![tactic(auto)]
+
 ghost use Rattle.std.specs.Prelude.{◌≡◌};
 ghost use Rattle.format.specs.Choice.{choice_of, in_range, sentences, supports, by_usage, illegal};
 

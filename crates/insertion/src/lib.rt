@@ -1,4 +1,6 @@
 // Making stored blocks of user data.
+#![tactic(auto)]
+
 ghost use Rattle.std.specs.Prelude.{◌≡◌, ◌+◌, ◌*◌, ◌≤◌, length};
 ghost use Rattle.words.specs.Parts.{put};
 ghost use Rattle.guard.specs.Table.{Right};

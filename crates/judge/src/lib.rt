@@ -1,4 +1,6 @@
 // Judging the intervals of a block, a block, a run of blocks. The first wrong interval is named.
+#![tactic(auto)]
+
 ghost use Rattle.std.specs.Prelude.{◌≡◌, ◌+◌, ◌^◌, ◌<◌, ◌≤◌};
 ghost use Rattle.guard.specs.Table.{Right};
 ghost use Rattle.judge.specs.Judge.{judge_intervals, judge_block, judge_blocks, place_on, next_interval, next_block, Run, Stretch};

@@ -1,4 +1,6 @@
 // What a WRITE with code 000 inserts: from the description and the command to the marks of new fields.
+#![tactic(auto)]
+
 ghost use Rattle.std.specs.Prelude.{◌≡◌};
 ghost use Rattle.segment.specs.Segment.{Segment};
 ghost use Rattle.marks.specs.Inserted.{inserted_application, inserted_reference, marks_of};

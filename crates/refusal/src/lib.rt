@@ -1,4 +1,6 @@
 // The rules on a command's fields, in the document's order: the first that refuses.
+#![tactic(auto)]
+
 ghost use Rattle.std.specs.Prelude.{◌≡◌, ◌≤◌};
 ghost use Rattle.segment.specs.Segment.{Segment};
 ghost use Rattle.refusal.specs.Refusal.{type_rules, code_rule, check_rule, moved_of, size_rule, buffer_of, buffer_rule, refusal};

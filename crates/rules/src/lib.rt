@@ -1,4 +1,6 @@
 // How a transfer's intervals are judged: from the description and the command to the rules of judging and the first tags.
+#![tactic(auto)]
+
 ghost use Rattle.std.specs.Prelude.{◌≡◌};
 ghost use Rattle.segment.specs.Segment.{Segment};
 ghost use Rattle.rules.specs.Rules.{columns_in, columns_of, application_known, reference_known, first_tag, escape_of, rules_of, start_of};

@@ -1,4 +1,6 @@
 // What is judged is one of two sides; here stands which of them an operation checks, and over how many blocks.
+#![tactic(auto)]
+
 ghost use Rattle.std.specs.Prelude.{◌≡◌};
 ghost use Rattle.sides.specs.Sides.{checks_as_write, checks_on, checked_on};
 

@@ -7,7 +7,7 @@ use Rattle.decoding.specs.declared.Decoded.TheVariants.{Served}
 use native.Mathlib.Omega.{arith}
 use Rattle.decoding.proofs.Laws.{within, decode_length, decode_field, decode_served}
 use Rattle.decoding.proofs.decode_as.Goals as goal
-use Rattle.decoding.proofs.decode_as.Goals.{then-is_long, else-is_long}
+use Rattle.decoding.proofs.decode_as.Goals.{then-is_long+else-c-ne24, else-is_long}
 
 bytes_of : {l m : Layout} → l ≡ m → l.bytes ≡ m.bytes
 bytes_of = ap (λ (l : Layout). l.bytes)
@@ -29,4 +29,4 @@ returns c =
     let e = c.if-c-l.false ∙ bytes_of c.layout_of-l.ensures in
     ap Served c.fields.ensures
     ∙ sym (decode_served _ _ _ e
-    (λ l. elim c.if-is_long.branch [ then-is_long w ↦ w.if-c-ne24.false | else-is_long w ↦ absurd (true≢false (sym l ∙ sym c.is_long.ensures ∙ w.if-is_long.false)) ]))
+    (λ l. elim c.if-is_long.branch [ then-is_long+else-c-ne24 w ↦ w.if-c-ne24.false | else-is_long w ↦ absurd (true≢false (sym l ∙ sym c.is_long.ensures ∙ w.if-is_long.false)) ]))

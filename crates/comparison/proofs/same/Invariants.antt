@@ -1,0 +1,14 @@
+-- `comparison::same`: the bits that differ in what is left, behind those seen, are all that differ.
+use mathlib.Core.Path.{◌≡◌, refl, ap, ◌∙◌}
+use Prim.Native.Nat.{ℕ, ◌≤◌, ◌-◌, zero-le}
+use native.Mathlib.Omega.{arith}
+use lib.Dec.{eqb}
+use lib.ListN.{length, drop}
+use Rattle.comparison.proofs.SameLaws.{differing_from, differing_next, differing_end, differing_same}
+use Rattle.comparison.proofs.same.Given as goal
+
+abbrev pub invariant-loop-i : goal.invariant-loop-i
+invariant-loop-i l = (l.i ≤ length l.a) × (differing_from l.differing (drop l.i l.a) (drop l.i l.b) ≡ differing_from 0 l.a l.b)
+
+abbrev pub decreases-loop-i : goal.decreases-loop-i
+decreases-loop-i l = length l.a - l.i

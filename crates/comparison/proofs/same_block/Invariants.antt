@@ -1,0 +1,30 @@
+-- `comparison::same_block`: the pieces that are left are the same exactly when, behind those seen, all are.
+use mathlib.Core.Path.{◌≡◌, refl, sym, ap, ap₂, ◌∙◌}
+use mathlib.Core.Bool.{Bool, true, false, not, ◌&&◌}
+use mathlib.Core.List.{List}
+use Prim.Native.Nat.{ℕ, ◌+◌, ◌*◌, ◌-◌, ◌<◌, ◌≤◌}
+use native.Mathlib.Nat.{zero-add}
+use native.Mathlib.Omega.{arith}
+use borrow.Author.Tests.{not-true, not-false}
+use lib.ListN.{length, take, drop, length-drop, drop_of_length-le}
+use lib.Seq.{drop-drop}
+use Rattle.words.proofs.BigEndian.{part_length}
+use Rattle.words.proofs.Parts.{part_at}
+use Rattle.words.proofs.Runs.{peel_within, peel_rest, peel_end}
+use Rattle.comparison.specs.declared.Cut.{Cut}
+use Rattle.comparison.specs.Comparison.{same}
+use Rattle.comparison.specs.Inner.{parts_of, Pair}
+use Rattle.comparison.proofs.Parts.{piece_turn, pieces_end}
+use Rattle.comparison.proofs.same_block.Given as goal
+
+pub record Going (k : Cut) (stored sent : List ℕ) (left i j : ℕ) : Type 0 where
+  pub from : i + left * k.stride ≡ length stored
+  pub to : j + left * k.size ≡ length sent
+  pub apart : k.size ≤ k.stride
+  pub rest : same (parts_of k left (drop i stored)) (drop j sent) ≡ same (parts_of k k.pieces stored) sent
+
+abbrev pub invariant-loop-left : goal.invariant-loop-left
+invariant-loop-left l = Going (record { pieces = l.initial.left; size = l.size; stride = l.stride }) l.stored l.sent l.left l.i l.j
+
+abbrev pub decreases-loop-left : goal.decreases-loop-left
+decreases-loop-left l = l.left

@@ -1,0 +1,57 @@
+-- `filling::fill_intervals`: the fresh intervals that stand, and those that are left, make up all of them.
+use mathlib.Core.Path.{◌≡◌, refl, sym, ap, ◌∙◌}
+use mathlib.Core.List.{List, [], ◌++◌}
+use Prim.Native.Nat.{ℕ, ◌+◌, ◌*◌, ◌-◌, ◌<◌, ◌≤◌}
+use native.Mathlib.Nat.{zero-add}
+use native.Mathlib.Omega.{arith}
+use borrow.Rule.Slice.PartMut.{put_mid}
+use lib.ListN.{length, take, length-append, length-replicate}
+use Rattle.words.specs.Parts.{put}
+use Rattle.words.specs.Runs.{runs}
+use Rattle.words.proofs.BigEndian.{part_length}
+use Rattle.words.proofs.Parts.{put_length, put_back}
+use Rattle.words.proofs.Runs.{peel_within, peel_rest, peel_end, fill_next, fill_end}
+use Rattle.filling.specs.Fresh.{fresh_interval, fresh_intervals}
+use Rattle.filling.proofs.fill_intervals.Invariants.{piece, Going}
+use Rattle.filling.proofs.fill_intervals.Goals as goal
+
+within : {size count left at : ℕ} {d₀ d : List ℕ} → Going size count d₀ d left at → 0 < left → at + (size + 8) ≤ length d
+within {size} {count} {left} {at} g h = rw g.kept (peel_within left at (size + 8) _ h g.to)
+
+turn : {size count left at : ℕ} {d₀ d new part : List ℕ} → Going size count d₀ d left at → 0 < left → part ≡ fresh_interval size
+    → new ≡ put_mid at (at + (size + 8) - at) d part → Going size count d₀ new (left - 1) (at + (size + 8))
+unfolding fresh_interval
+turn {size} {count} {left} {at} {d₀} {d} {new} {part} g h e w =
+    let long : length part ≡ size + 8 = rw (e, length-append, length-replicate, length-replicate) in
+    let span : length part ≡ at + (size + 8) - at = rw long (omega arith) in
+    let back : new ≡ put at part d = w ∙ put_back at (at + (size + 8)) d part (omega arith) span in
+    let room : at + (size + 8) ≤ length d = within g h in
+    record {
+      kept = ap length back ∙ put_length at part d (rw long room) ∙ g.kept;
+      to = peel_rest left at (size + 8) _ h g.to;
+      made = rw back (fill_next (piece size) (λ t. t) 0 left at 0 (size + 8) 0 [] d part _ h long room e g.made);
+    }
+
+pub loop-left-init : goal.loop-left-init
+unfolding fresh_intervals
+loop-left-init c = record { kept = refl; to = rw zero-add c.requires; made = refl }
+
+pub overflow_add-end : goal.overflow_add-end
+overflow_add-end c = omega (arith, within c.loop-left.invariant c.loop-left-test.true, c.loop-left.invariant.kept, c.well_formed)
+
+pub overflow_add-end-in-loop-left : goal.overflow_add-end-in-loop-left
+overflow_add-end-in-loop-left c = omega (arith, within c.loop-left.invariant c.loop-left-test.true, c.loop-left.invariant.kept, c.well_formed)
+
+pub slice_bounds-fill_interval-end : goal.slice_bounds-fill_interval-end
+slice_bounds-fill_interval-end c = within c.loop-left.invariant c.loop-left-test.true
+
+pub fill_interval-requires : goal.fill_interval-requires
+fill_interval-requires c = sym (part_length _ (_ + 8) _ (within c.loop-left.invariant c.loop-left-test.true))
+
+pub loop-left-preserved : goal.loop-left-preserved
+loop-left-preserved c = turn c.loop-left.invariant c.loop-left-test.true c.fill_interval.ensures refl
+
+pub returns : goal.returns
+returns c =
+    let l = c.loop-left in
+    fill_end (piece _) _ 0 l.left l.at 0 0 [] _ _ c.loop-left-test.false (rw l.invariant.kept (peel_end _ _ (_ + 8) _ c.loop-left-test.false l.invariant.to)) l.invariant.made

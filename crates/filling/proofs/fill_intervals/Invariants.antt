@@ -1,0 +1,29 @@
+-- `filling::fill_intervals`: the fresh intervals that stand, and those that are left, make up all of them.
+use mathlib.Core.Path.{◌≡◌, refl, sym, ap, ◌∙◌}
+use mathlib.Core.List.{List, [], ◌++◌}
+use Prim.Native.Nat.{ℕ, ◌+◌, ◌*◌, ◌-◌, ◌<◌, ◌≤◌}
+use native.Mathlib.Nat.{zero-add}
+use native.Mathlib.Omega.{arith}
+use borrow.Rule.Slice.PartMut.{put_mid}
+use lib.ListN.{length, take, length-append, length-replicate}
+use Rattle.words.specs.Parts.{put}
+use Rattle.words.specs.Runs.{runs}
+use Rattle.words.proofs.BigEndian.{part_length}
+use Rattle.words.proofs.Parts.{put_length, put_back}
+use Rattle.words.proofs.Runs.{peel_within, peel_rest, peel_end, fill_next, fill_end}
+use Rattle.filling.specs.Fresh.{fresh_interval, fresh_intervals}
+use Rattle.filling.proofs.fill_intervals.Given as goal
+
+abbrev pub piece : ℕ → ℕ → List ℕ → List ℕ
+piece size t l = fresh_interval size
+
+pub record Going (size count : ℕ) (d₀ d : List ℕ) (left at : ℕ) : Type 0 where
+  pub kept : length d ≡ length d₀
+  pub to : at + left * (size + 8) ≡ length d₀
+  pub made : take at d ++ runs (piece size) (λ t. t) 0 left 0 [] ≡ fresh_intervals size count
+
+abbrev pub invariant-loop-left : goal.invariant-loop-left
+invariant-loop-left l = Going l.size l.count l.fn.d l.d l.left l.at
+
+abbrev pub decreases-loop-left : goal.decreases-loop-left
+decreases-loop-left l = l.left

@@ -1,0 +1,17 @@
+-- `insertion::insert_block`: one stored interval after the other is put in its place.
+use Rattle.std.proofs.Common.{◌≡◌, ℕ, ◌+◌, ◌-◌, ◌≤◌, List, length, take, drop, sym, refl, ap, ◌∙◌, le_of_eq, le_refl, one-mul, zero-add, arith, rules}
+use Rattle.words.specs.Parts.{put}
+use Rattle.words.proofs.BigEndian.{part_length}
+use Rattle.blocks.proofs.Filling.{Filling, within, room, turn, done, begin}
+use Rattle.blocks.proofs.Places.{put_all}
+use Rattle.blocks.proofs.Pieces.{of_part}
+use Rattle.insertion.specs.declared.Marks.{Marks}
+use Rattle.insertion.specs.Insertion.{with_field, later, stored_block}
+use Rattle.insertion.proofs.Laws.{marks, marks_later, block_length, interval_behind}
+use Rattle.insertion.proofs.insert_block.Given as goal
+
+abbrev pub invariant-loop-left : goal.invariant-loop-left
+invariant-loop-left l = Filling (with_field l.size) (later 1) l.size (l.size + 8) (length l.fn.d) l.s l.fn.d (put 0 (stored_block l.size l.intervals (marks l.application l.initial.reference l.step) l.s) l.fn.d) l.left l.i l.a (marks l.application l.reference l.step) l.d
+
+abbrev pub decreases-loop-left : goal.decreases-loop-left
+decreases-loop-left l = l.left

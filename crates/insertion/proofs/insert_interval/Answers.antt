@@ -1,0 +1,43 @@
+-- `insertion::insert_interval`: the data, and behind it the field.
+use Rattle.std.proofs.Common.{◌≡◌, ℕ, ◌+◌, ◌-◌, List, ◌++◌, length, drop, sym, ◌∙◌, append-nil, arith, length-append, length-drop, drop_of_length-le, length-take-le, rules}
+use lib.Seq.{take-append_seam, take-length}
+use borrow.Rule.Slice.PartMut.{put_mid}
+use Rattle.words.specs.Parts.{put}
+use Rattle.words.proofs.Parts.{put_back}
+use Rattle.guard.specs.Guard.{guard}
+use Rattle.field.specs.Field.{field_bytes}
+use Rattle.field.proofs.Laws.{field_length}
+use Rattle.insertion.specs.declared.Marks.{Marks}
+use Rattle.insertion.specs.Insertion.{with_field}
+use borrow.Author.Rules.{rules}
+use Rattle.insertion.proofs.insert_interval.Goals as goal
+
+-- the field put behind the data, up to the end
+interval-made : (m : Marks) (g : ℕ) (s d d₁ d₂ : List ℕ) → length s + 8 ≡ length d → d₁ ≡ s → g ≡ guard s → d₂ ≡ field_bytes g m.application m.reference
+    → put_mid (length s) (length (d₁ ++ drop (length s) d) - length s) (d₁ ++ drop (length s) d) d₂ ≡ with_field (length s) m s
+unfolding with_field put
+interval-made m g s d d₁ d₂ room e₁ eg e₂ =
+    let n = length s in
+    let old = s ++ drop n d in
+    let f = field_bytes (guard s) m.application m.reference in
+    let eight : length f ≡ 8 = field_length _ _ _ in
+    let whole : length old ≡ n + 8 = simp (length-append, length-drop) (omega arith) in
+    let nothing = drop_of_length-le old {i = n + length f} (omega arith) in
+    rw (e₁, e₂, eg) (put_back n (length old) old f (omega arith) (omega arith) ∙ rw (take-append_seam, nothing, append-nil, take-length))
+
+pub slice_bounds-copy_with_guard-end-2 : goal.slice_bounds-copy_with_guard-end-2
+slice_bounds-copy_with_guard-end-2 c = sym (length-take-le _ _ (search rules))
+
+pub copy_with_guard-g-requires : goal.copy_with_guard-g-requires
+copy_with_guard-g-requires c = record { right = search rules; data_len = sym (length-take-le _ _ (search rules)) }
+
+pub returns : goal.returns
+returns c =
+    let wrote = c in
+    let copied = wrote in
+    let start = copied in
+    interval-made _ _ start.args.s.now start.args.d.now copied.copy_with_guard-g.new.d _
+    start.requires.s_len
+    copied.copy_with_guard-g.ensures.1
+    copied.copy_with_guard-g.ensures.0
+    wrote.write.ensures
