@@ -1,4 +1,6 @@
 // The refusals that go by the description, the lengths and the command's bytes, in the document's order.
+#![tactic(auto)]
+
 ghost use Rattle.std.specs.Prelude.{◌≡◌};
 ghost use Rattle.segment.specs.Segment.{Segment};
 ghost use Rattle.admission.specs.Admission.{admit_command, admitted};

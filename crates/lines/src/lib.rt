@@ -1,4 +1,6 @@
 // A line of the listing, before and as it is printed.
+#![tactic(auto)]
+
 ghost use Rattle.std.specs.Prelude.{◌≡◌, ◌+◌, ◌≤◌, ◌^◌, length};
 ghost use Rattle.guard.specs.Table.{Right};
 ghost use Rattle.writing.specs.Laid.{Written};

@@ -1,4 +1,6 @@
 // The record that is listed: whether it is bad, the description that it gives, and which refusal it gets.
+#![tactic(auto)]
+
 ghost use Rattle.std.specs.Prelude.{◌≡◌};
 ghost use Rattle.records.specs.Record.{frame_bad, Framed, described_by, record_answer};
 

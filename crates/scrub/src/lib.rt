@@ -1,4 +1,6 @@
 // Scrubbing: a few blocks of a segment from a place on, how many of them have a fault, and where the first is.
+#![tactic(auto)]
+
 ghost use Rattle.std.specs.Prelude.{◌≡◌, ◌+◌, ◌≤◌, ◌<◌, true, false, not, length};
 ghost use Rattle.guard.specs.Rows.{RightRows};
 ghost use Rattle.answer.specs.Answer.{is_good};

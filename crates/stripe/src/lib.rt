@@ -1,4 +1,6 @@
 // Stripes of up to sixteen members: making parity, rebuilding a lost part, correcting parity, and their refusals.
+#![tactic(auto)]
+
 ghost use Rattle.std.specs.Prelude.{◌≡◌};
 ghost use Rattle.answer.specs.Outcome.{outcome};
 ghost use Rattle.stripe.specs.Stripe.{stripe_rules, in_range, made, rebuilt, corrected};

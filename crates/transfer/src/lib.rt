@@ -1,4 +1,6 @@
 // What an admitted command does with its blocks: judging, comparing, and moving.
+#![tactic(auto)]
+
 ghost use Rattle.std.specs.Prelude.{◌≡◌, ◌+◌, ◌≤◌, length};
 ghost use Rattle.words.specs.Parts.{put};
 ghost use Rattle.guard.specs.Table.{Right};

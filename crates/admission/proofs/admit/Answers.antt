@@ -1,5 +1,4 @@
 -- `admission::admit`: the segment's rules, the command's bytes, its fields, in this order.
--- Assumes nothing.
 use mathlib.Core.Path.{◌≡◌, sym, ◌∙◌}
 use mathlib.Core.Bool.{Bool, true, false, not}
 use mathlib.Core.List.{List}
@@ -18,9 +17,9 @@ use Rattle.decoding.specs.declared.Decoded.TheVariants as decoded
 use Rattle.refusal.specs.declared.Lengths.{Lengths}
 use Rattle.admission.specs.declared.Admitted.TheVariants.{Refused}
 use Rattle.admission.specs.Admission.{admit_command, admitted}
+use mathlib.Core.Path.{ap}
 use borrow.Author.Rules.{rules}
-use Rattle.admission.proofs.admit.Statement.{statement}
-use Rattle.admission.proofs.admit.Tie as tie
+use Rattle.admission.proofs.admit.Goals as goal
 
 -- `a` is what the segment's rules answered, `g` whether that is good
 module _ (d : Description) (l : Lengths) (command : List ℕ) (a : Answer) (g : Bool) (e : a ≡ segment_rules d l.segment) (t : g ≡ is_good a) where
@@ -36,25 +35,14 @@ module _ (d : Description) (l : Lengths) (command : List ℕ) (a : Answer) (g : 
   unfolding admitted
   on-served n f = rw (← e, sym t ∙ not-false g n, f)
 
-returns : tie.Need-returns
-returns c = sym (unfit _ _ _ _ _ c.before.before.segment_rules.ensures c.before.is_good.ensures c.if1.true)
+pub returns-then-not-is_good : goal.returns-then-not-is_good
+returns-then-not-is_good c = sym (unfit _ _ _ _ _ c.segment_rules-a.ensures c.is_good.ensures (ap not c.if-not-is_good.true))
 
-admit-command-requires : tie.Need-admit-command-requires
-admit-command-requires c κs = (fitting _ _ _ c.before.before.before.before.before.is_good.ensures c.before.before.before.before.if1.false _ c.before.before.before.before.before.before.segment_rules.ensures).0
+pub admit_command-requires : goal.admit_command-requires
+admit_command-requires c = (fitting _ _ _ c.is_good.ensures (ap not c.if-not-is_good.false) _ c.segment_rules-a.ensures).0
 
-returns-2 : tie.Need-returns-2
-returns-2 c = sym (on-refused _ _ _ _ _ c.before.before.before.before.before.before.segment_rules.ensures c.before.before.before.before.before.is_good.ensures c.before.before.before.before.if1.false (sym c.before.before.before.decode.ensures ∙ c.before.decoded.given.1))
+pub returns-in-Refused : goal.returns-in-Refused
+returns-in-Refused c = sym (on-refused _ _ _ _ _ c.segment_rules-a.ensures c.is_good.ensures (ap not c.if-not-is_good.false) (sym c.decode-decoded.ensures ∙ c.in-Refused.is))
 
-returns-3 : tie.Need-returns-3
-returns-3 c = c.admit-command.ensures ∙ sym (on-served _ _ _ _ _ c.before.before.before.before.before.before.before.segment_rules.ensures c.before.before.before.before.before.before.is_good.ensures c.before.before.before.before.before.if1.false (sym c.before.before.before.before.decode.ensures ∙ c.before.before.decoded2.given.1))
-
-pub admit_spec : {M : Type 1} → statement M
-admit_spec =
-    tie.close
-    (tie.spec
-    (λ c κs. search rules) (λ c κs. search rules)
-    returns
-    (λ c κs. search rules) (λ c. search rules) (λ c. search rules)
-    admit-command-requires
-    returns-2
-    returns-3)
+pub returns-in-Served : goal.returns-in-Served
+returns-in-Served c = c.admit_command.ensures ∙ sym (on-served _ _ _ _ _ c.segment_rules-a.ensures c.is_good.ensures (ap not c.if-not-is_good.false) (sym c.decode-decoded.ensures ∙ c.in-Served.is))
