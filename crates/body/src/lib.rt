@@ -1,4 +1,6 @@
 // The lines of a run of blocks, printed and counted.
+#![tactic(auto)]
+
 ghost use Rattle.std.specs.Prelude.{◌*◌};
 ghost use Rattle.guard.specs.Table.{Right};
 ghost use Rattle.judge.specs.Judge.{Run};

@@ -1,4 +1,6 @@
 // The last line of a listing, and the one line of a refusal.
+#![tactic(auto)]
+
 ghost use Rattle.std.specs.Prelude.{◌+◌, ◌≤◌, ◌^◌};
 ghost use Rattle.writing.specs.Laid.{Written};
 ghost use Rattle.closing.specs.Closing.{numbers_text, refused_text};

@@ -1,4 +1,6 @@
 // The lines of a segment, printed.
+#![tactic(auto)]
+
 ghost use Rattle.std.specs.Prelude.{◌≡◌, length};
 ghost use Rattle.segment.specs.Segment.{Segment, length_of};
 ghost use Rattle.sheet.specs.Sheet.{Printed, Room};

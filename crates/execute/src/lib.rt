@@ -1,4 +1,6 @@
 // From a command's bytes to its answer: admission, then judging and comparing, and only then moving.
+#![tactic(auto)]
+
 ghost use Rattle.std.specs.Prelude.{◌≡◌, ◌+◌};
 ghost use Rattle.guard.specs.Table.{Right};
 ghost use Rattle.segment.specs.Places.{offset_of, span_of};

@@ -1,4 +1,6 @@
 // The lines of one block, printed and counted.
+#![tactic(auto)]
+
 ghost use Rattle.guard.specs.Table.{Right};
 ghost use Rattle.judge.specs.Judge.{Run};
 ghost use Rattle.sheet.specs.Sheet.{Printed, Room};

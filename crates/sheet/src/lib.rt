@@ -1,4 +1,6 @@
 // Where printing stands, and the line of one interval, printed and counted.
+#![tactic(auto)]
+
 ghost use Rattle.std.specs.Prelude.{◌≡◌, ◌∷◌, [], ◌+◌, length};
 ghost use Rattle.guard.specs.Table.{Right};
 ghost use Rattle.lines.specs.Lines.{line_of};

@@ -1,5 +1,4 @@
 -- `paragraph::print_block`: the lines that are printed, and those of the intervals that are left, make up the block's.
--- Assumes nothing.
 use mathlib.Core.Path.{◌≡◌, sym, ap, ◌∙◌}
 use mathlib.Core.Bool.{Bool}
 use mathlib.Core.List.{List, [], ◌∷◌, ◌++◌, append_assoc, append-nil}
@@ -20,18 +19,8 @@ use Rattle.sheet.specs.Sheet.{Printed, Room}
 use Rattle.sheet.proofs.SheetLaws.{printed_none, printed_then, printed_as, room_next, room_less}
 use Rattle.paragraph.specs.Paragraph.{interval_lines, lines_in}
 use Rattle.paragraph.proofs.ParagraphLaws.{interval_turn, own_line, intervals_none}
-use borrow.Author.Rules.{rules}
-use Rattle.paragraph.proofs.print_block.Statement.{statement}
-use Rattle.paragraph.proofs.print_block.Tie as tie
-
-record Going (r : Rules) (k : Bool) (p : Place) (s : List ℕ) (t : Sheet) (out₀ out : List ℕ) (left : ℕ) (here : Place) (number : ℕ) (u : Sheet) (i : ℕ) : Type 0 where
-  from : i + left * (r.size + 8) ≡ length s
-  places : here.interval + left ≤ 2 ^ 32
-  numbers : number + left ≤ 2 ^ 32
-  space : Room u left
-  done : List Line
-  printed : Printed done t out₀ u out
-  all : done ++ interval_lines r k left number here (drop i s) ≡ lines_in r p s
+use Rattle.paragraph.proofs.print_block.Invariants.{Going}
+use Rattle.paragraph.proofs.print_block.Goals as goal
 
 begins : {r : Rules} {k : Bool} {p : Place} {s : List ℕ} {t : Sheet} {out : List ℕ} → Run r 1 p s → Room t r.intervals → k ≡ any_escapes r.escape r.size r.intervals s
     → Going r k p s t out out r.intervals p 0 t 0
@@ -81,58 +70,29 @@ ends : {r : Rules} {k : Bool} {p : Place} {s : List ℕ} {t : Sheet} {out₀ out
 ends {r} {k} {s = s} {left = left} {here} {number} {i = i} g h =
     printed_as (sym (append-nil g.done) ∙ ap (λ (ls : List Line). g.done ++ ls) (sym (intervals_none r k left number here (drop i s) h)) ∙ g.all) g.printed
 
-abbrev invariant-loop : tie.invariant-loop
-invariant-loop t r s out₀ size skipped left₀ here₀ number₀ now₀ i₀ out left here number now i = Going r skipped here₀ s now₀ out₀ out left here number now i
+pub any_escapes-skipped-requires : goal.any_escapes-skipped-requires
+any_escapes-skipped-requires c = sym (one-mul _) ∙ c.requires.run.whole
 
-abbrev decreases-loop : tie.decreases-loop
-decreases-loop t r s out₀ size skipped left₀ here₀ number₀ now₀ i₀ out left here number now i = left
+pub loop-left-init : goal.loop-left-init
+loop-left-init c = begins c.requires.run c.requires.room c.any_escapes-skipped.ensures
 
-any-escapes-requires : tie.Need-any-escapes-requires invariant-loop decreases-loop
-any-escapes-requires c κs = sym (one-mul _) ∙ c.before.before.requires.1.0.whole
+pub overflow_add-end-in-loop-left : goal.overflow_add-end-in-loop-left
+overflow_add-end-in-loop-left c = omega (arith, within c.loop-left.invariant c.loop-left-test.true, c.well_formed)
 
-loop-holds : tie.Need-loop-init invariant-loop decreases-loop
-loop-holds c = begins c.before.before.before.requires.1.0 c.before.before.before.requires.1.1 c.any_escapes.ensures
+pub slice_bounds-print_interval-end : goal.slice_bounds-print_interval-end
+slice_bounds-print_interval-end c = within c.loop-left.invariant c.loop-left-test.true
 
-add-end-2 : tie.Need-overflow-add-end-2 invariant-loop decreases-loop
-add-end-2 c = omega (arith, within c.before.loop.invariant c.loop-test.true, c.before.before.before.before.before.well-formed)
+pub print_interval-now-requires : goal.print_interval-now-requires
+print_interval-now-requires c = record { right = c.requires.right; size_value = whole c.loop-left.invariant c.loop-left-test.true; room = one c.loop-left.invariant c.loop-left-test.true }
 
-part-print-interval-end : tie.Need-slice-bounds-print-interval-end invariant-loop decreases-loop
-part-print-interval-end c = within c.before.loop.invariant c.loop-test.true
+pub next_interval-here-requires : goal.next_interval-here-requires
+next_interval-here-requires c = omega (arith, c.loop-left.invariant.places, c.loop-left-test.true)
 
-print-interval-requires : tie.Need-print-interval-requires invariant-loop decreases-loop
-print-interval-requires c κs = (c.before.before.before.before.before.before.before.requires.0, (whole c.before.before.before.loop.invariant c.before.before.loop-test.true, one c.before.before.before.loop.invariant c.before.before.loop-test.true))
+pub overflow_add-number : goal.overflow_add-number
+overflow_add-number c = omega (arith, c.loop-left.invariant.numbers, c.loop-left-test.true)
 
-next-interval-requires : tie.Need-next-interval-requires invariant-loop decreases-loop
-next-interval-requires c κs = omega (arith, c.before.before.before.before.before.before.loop.invariant.places, c.before.before.before.before.before.loop-test.true)
+pub loop-left-preserved : goal.loop-left-preserved
+loop-left-preserved c = turn c.loop-left.invariant c.loop-left-test.true c.print_interval-now.ensures c.next_interval-here.ensures
 
-add-number : tie.Need-overflow-add-number invariant-loop decreases-loop
-add-number c = omega (arith, c.before.before.before.before.before.before.before.loop.invariant.numbers, c.before.before.before.before.before.before.loop-test.true)
-
-loop-again : tie.Need-loop-preserved invariant-loop decreases-loop
-loop-again c = turn c.before.before.before.before.before.before.before.loop.invariant c.before.before.before.before.before.before.loop-test.true c.before.before.before.print_interval.ensures c.next_interval.ensures
-
-same_length : tie.Need-same-length invariant-loop decreases-loop
-same_length c = written_length c.before.loop.invariant.printed.text
-
-returns : tie.Need-returns invariant-loop decreases-loop
-returns c = ends c.before.loop.invariant c.loop-test.false
-
-pub print_block_spec : {M : Type 1} → statement M
-print_block_spec =
-    tie.close
-    (tie.spec
-    invariant-loop
-    decreases-loop
-    any-escapes-requires
-    loop-holds
-    (λ c. search rules)
-    add-end-2
-    (λ c. search rules) (λ c. search rules)
-    part-print-interval-end
-    print-interval-requires
-    next-interval-requires
-    add-number
-    (λ c. search rules) (λ c. search rules)
-    loop-again
-    same_length
-    returns)
+pub returns : goal.returns
+returns c = ends c.loop-left.invariant c.loop-left-test.false

@@ -1,5 +1,4 @@
 -- `body::print_blocks`: the lines that are printed, and those of the blocks that are left, make up all of them.
--- Assumes nothing.
 use mathlib.Core.Path.{◌≡◌, refl, sym, ap, ◌∙◌}
 use mathlib.Core.List.{List, [], ◌++◌, append_assoc, append-nil}
 use Prim.Native.Nat.{ℕ, ◌+◌, ◌-◌, ◌*◌, ◌^◌, ◌<◌, ◌≤◌, zero-le}
@@ -21,17 +20,8 @@ use Rattle.paragraph.specs.Paragraph.{lines_in}
 use Rattle.paragraph.proofs.ParagraphLaws.{own_block_lines, block_length}
 use Rattle.body.specs.Body.{block_lines}
 use Rattle.body.proofs.BlockLaws.{block_turn, blocks_none}
-use borrow.Author.Rules.{rules}
-use Rattle.body.proofs.print_blocks.Statement.{statement}
-use Rattle.body.proofs.print_blocks.Tie as tie
-
-record Going (r : Rules) (count : ℕ) (p : Place) (s : List ℕ) (t : Sheet) (out₀ out : List ℕ) (left : ℕ) (here : Place) (u : Sheet) (i : ℕ) : Type 0 where
-  inside : i ≤ length s
-  run : Run r left here (drop i s)
-  space : Room u (left * r.intervals)
-  done : List Line
-  printed : Printed done t out₀ u out
-  all : done ++ block_lines r left here (drop i s) ≡ block_lines r count p s
+use Rattle.body.proofs.print_blocks.Invariants.{Going}
+use Rattle.body.proofs.print_blocks.Goals as goal
 
 begins : {r : Rules} {count : ℕ} {p : Place} {s : List ℕ} {t : Sheet} {out : List ℕ} → Run r count p s → Room t (count * r.intervals)
     → Going r count p s t out out count p t 0
@@ -77,54 +67,26 @@ ends : {r : Rules} {count : ℕ} {p : Place} {s : List ℕ} {t : Sheet} {out₀ 
 ends {r} {s = s} {left = left} {here} {i = i} g h =
     printed_as (sym (append-nil g.done) ∙ ap (λ (ls : List Line). g.done ++ ls) (sym (blocks_none r left here (drop i s) h)) ∙ g.all) g.printed
 
-abbrev invariant-loop : tie.invariant-loop
-invariant-loop t r count s out₀ n block left₀ here₀ now₀ i₀ out left here now i = Going r count here₀ s now₀ out₀ out left here now i
+pub overflow_mul-block : goal.overflow_mul-block
+overflow_mul-block c = omega (arith, block_fits c.requires.run)
 
-abbrev decreases-loop : tie.decreases-loop
-decreases-loop t r count s out₀ n block left₀ here₀ now₀ i₀ out left here now i = left
+pub loop-left-init : goal.loop-left-init
+loop-left-init c = begins c.requires.run c.requires.room
 
-mul-block : tie.Need-overflow-mul-block invariant-loop decreases-loop
-mul-block c = omega (arith, block_fits c.before.before.before.requires.1.0)
+pub overflow_add-end : goal.overflow_add-end
+overflow_add-end c = omega (arith, within c.loop-left.invariant c.loop-left-test.true, c.well_formed)
 
-loop-holds : tie.Need-loop-init invariant-loop decreases-loop
-loop-holds c = begins c.before.before.before.requires.1.0 c.before.before.before.requires.1.1
+pub slice_bounds-print_block-end : goal.slice_bounds-print_block-end
+slice_bounds-print_block-end c = within c.loop-left.invariant c.loop-left-test.true
 
-add-end : tie.Need-overflow-add-end invariant-loop decreases-loop
-add-end c = omega (arith, within c.before.loop.invariant c.loop-test.true, c.before.before.before.before.before.well-formed)
+pub print_block-now-requires : goal.print_block-now-requires
+print_block-now-requires c = record { right = c.requires.right; run = first c.loop-left.invariant c.loop-left-test.true; room = one c.loop-left.invariant c.loop-left-test.true }
 
-part-print-block-end : tie.Need-slice-bounds-print-block-end invariant-loop decreases-loop
-part-print-block-end c = within c.before.loop.invariant c.loop-test.true
+pub next_block-here-requires : goal.next_block-here-requires
+next_block-here-requires c = places c.loop-left.invariant c.loop-left-test.true
 
-print-block-requires : tie.Need-print-block-requires invariant-loop decreases-loop
-print-block-requires c κs = (c.before.before.before.before.before.before.before.requires.0, (first c.before.before.before.loop.invariant c.before.before.loop-test.true, one c.before.before.before.loop.invariant c.before.before.loop-test.true))
+pub loop-left-preserved : goal.loop-left-preserved
+loop-left-preserved c = turn c.loop-left.invariant c.loop-left-test.true c.print_block-now.ensures c.next_block-here.ensures
 
-next-block-requires : tie.Need-next-block-requires invariant-loop decreases-loop
-next-block-requires c κs = places c.before.before.before.before.before.before.loop.invariant c.before.before.before.before.before.loop-test.true
-
-loop-again : tie.Need-loop-preserved invariant-loop decreases-loop
-loop-again c = turn c.before.before.before.before.before.before.before.loop.invariant c.before.before.before.before.before.before.loop-test.true c.before.before.before.print_block.ensures c.next_block.ensures
-
-same_length : tie.Need-same-length invariant-loop decreases-loop
-same_length c = written_length c.before.loop.invariant.printed.text
-
-returns : tie.Need-returns invariant-loop decreases-loop
-returns c = ends c.before.loop.invariant c.loop-test.false
-
-pub print_blocks_spec : {M : Type 1} → statement M
-print_blocks_spec =
-    tie.close
-    (tie.spec
-    invariant-loop
-    decreases-loop
-    (λ c. search rules)
-    mul-block
-    loop-holds
-    add-end
-    (λ c. search rules) (λ c. search rules)
-    part-print-block-end
-    print-block-requires
-    next-block-requires
-    (λ c. search rules) (λ c. search rules)
-    loop-again
-    same_length
-    returns)
+pub returns : goal.returns
+returns c = ends c.loop-left.invariant c.loop-left-test.false
