@@ -1,1 +1,2 @@
 // What holds of every command is in proofs/Demands.antt, InOrder.antt, Moved.antt and Inserted.antt; no code uses it.
+#![tactic(auto)]

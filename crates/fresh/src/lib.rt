@@ -1,1 +1,2 @@
 // What holds of fresh segments is in proofs/Demands.antt; no code uses it.
+#![tactic(auto)]

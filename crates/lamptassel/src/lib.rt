@@ -1,4 +1,6 @@
 // What a C server links. Each function takes numbers and byte slices, and answers every input.
+#![tactic(auto)]
+
 ghost use Rattle.std.specs.Prelude.{◌≡◌};
 ghost use Rattle.guard.specs.Guard.{guard};
 ghost use Rattle.guards.specs.Guards.{guards};

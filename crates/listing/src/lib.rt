@@ -1,4 +1,6 @@
 // A record to the bytes of its listing.
+#![tactic(auto)]
+
 ghost use Rattle.listing.specs.Listing.{Listed};
 
 // Writes the listing of a record to `out`: of its bytes, as many as there is room for. Hands back how many bytes the whole listing has.

@@ -1,4 +1,6 @@
 // The listing of a segment: header, lines, last line.
+#![tactic(auto)]
+
 ghost use Rattle.std.specs.Prelude.{◌≡◌, ◌≤◌, length};
 ghost use Rattle.segment.specs.Segment.{Segment, length_of};
 ghost use Rattle.writing.specs.Laid.{Written};
