@@ -1,7 +1,10 @@
 // Reads a record from standard input, and writes its listing, or the one line of its refusal, to standard output.
-ghost use Rattle.std.specs.Prelude.{◌≡◌, length};
+#![tactic(auto)]
 
-use libc::{STDIN_FILENO, STDOUT_FILENO};
+ghost use Rattle.std.specs.Prelude.{◌≡◌, ◌≤◌, length, IfOk};
+
+use std::io;
+use std::io::{Read, Write};
 
 // Room for one byte more than the largest record: a longer input is refused in the same way as one of that length.
 fn record() -> [u8; 65537]
@@ -17,12 +20,26 @@ fn sheet() -> [u8; 524288]
     [0; 524288]
 }
 
-fn main() {
+// Reads until `buffer` is full or the input ends, and returns how many bytes it put there.
+fn read_full(rt: &HostRuntime, buffer: &mut [u8]) -> io::Result<usize>
+    ensures { IfOk result (λ n. n ≤ length buffer.new) }
+{
+    let mut reader = rt.stdin();
+    let mut done: usize = 0;
+    while done < buffer.len() {
+        let n = reader.read(&mut buffer[done..])?;
+        if n == 0 {
+            break;
+        }
+        done += n;
+    }
+    Ok(done)
+}
+
+fn main(rt: HostRuntime) -> io::Result<()> {
     let mut input = record();
-    let got = io::read_full(STDIN_FILENO, &mut input);
+    let got = read_full(&rt, &mut input)?;
     let mut out = sheet();
     let n = listing::list(&input[..got], &mut out);
-    if !io::write_all(STDOUT_FILENO, &out[..n]) {
-        os::fail(b"standard output");
-    }
+    io::writer(&rt).write_all(&out[..n])
 }

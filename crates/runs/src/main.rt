@@ -1,5 +1,6 @@
 // Runs the cases of document 01, 'Both sides of the line', that are commands, and some of document 02's 'Compare while verifying', and
 // prints what comes of each.
+#![tactic(auto)]
 
 fn main() {
     reads();

@@ -1,4 +1,5 @@
 // Runs cases of document 02's 'Scrubbing a few blocks at a time' on document 01's segment M, and prints what each hands back.
+#![tactic(auto)]
 
 fn main() {
     steps();

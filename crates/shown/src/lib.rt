@@ -1,4 +1,6 @@
 // An answer and bytes, as the programs that run document 01's cases print them.
+#![tactic(auto)]
+
 use answer::Answer;
 
 // The answer's number, address and interval, to the end of the line.
