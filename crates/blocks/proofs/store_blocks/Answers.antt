@@ -12,8 +12,7 @@ use Rattle.blocks.proofs.store_blocks.Goals as goal
 
 pub loop-left-init : goal.loop-left-init
 loop-left-init c =
-    let start = c in
-    begin _ _ _ _ _ _ _ 0 _ _ _ start.requires.stored_value refl start.requires.stored_in_bounds (runs_same _ _ _ start.requires.stored_value) (sym start.requires.stored_value)
+    begin _ _ _ _ _ _ _ 0 _ _ _ c.requires.stored_value refl c.requires.stored_in_bounds (runs_same _ _ _ c.requires.stored_value) (sym c.requires.stored_value)
 
 pub overflow_add-j : goal.overflow_add-j
 overflow_add-j c = omega (arith, within c.loop-left.invariant c.loop-left-test.true, c.well_formed)

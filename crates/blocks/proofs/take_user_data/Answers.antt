@@ -59,12 +59,10 @@ overflow_add-e c = omega (arith, to c.loop-left.invariant c.loop-left-test.true)
 
 pub loop-left-preserved : goal.loop-left-preserved
 loop-left-preserved c =
-    let copied = c in
-    let test = copied.loop-left-test in
-    next copied.loop-left.invariant test.true _ c.d-1.given.0 copied.copy.ensures
+    let test = c.loop-left-test in
+    next c.loop-left.invariant test.true _ c.d-1.given.0 c.copy.ensures
 
 pub returns : goal.returns
 returns c =
-    let start = c in
     let taken = c.loop-left.invariant in
-    done taken.filling c.loop-left-test.false ∙ put_all _ _ (user_data_length _ _ _ (le_of_eq start.requires.size_value) ∙ start.requires.size_value_2)
+    done taken.filling c.loop-left-test.false ∙ put_all _ _ (user_data_length _ _ _ (le_of_eq c.requires.size_value) ∙ c.requires.size_value_2)

@@ -99,13 +99,11 @@ overflow_add-differs c = omega (arith, c.requires.stride_bound.1)
 
 pub returns-then-not-same_block : goal.returns-then-not-same_block
 returns-then-not-same_block c =
-    let at = c in
-    stop at.loop-left.invariant at.loop-left-test.true c.same_block.ensures (ap not c.if-not-same_block.true)
+    stop c.loop-left.invariant c.loop-left-test.true c.same_block.ensures (ap not c.if-not-same_block.true)
 
 pub loop-left-preserved : goal.loop-left-preserved
 loop-left-preserved c =
-    let at = c in
-    turn at.loop-left.invariant at.loop-left-test.true c.same_block.ensures (ap not c.if-not-same_block.false)
+    turn c.loop-left.invariant c.loop-left-test.true c.same_block.ensures (ap not c.if-not-same_block.false)
 
 pub returns : goal.returns
 returns c = blocks_end _ c.loop-left.left _ _ _ c.loop-left-test.false ∙ c.loop-left.invariant.rest

@@ -76,18 +76,15 @@ same-requires c = as_long c.loop-left.invariant c.loop-left-test.true
 
 pub returns-then-not-same : goal.returns-then-not-same
 returns-then-not-same c =
-    let at = c in
-    stop at.loop-left.invariant at.loop-left-test.true c.same.ensures (ap not c.if-not-same.true)
+    stop c.loop-left.invariant c.loop-left-test.true c.same.ensures (ap not c.if-not-same.true)
 
 pub overflow_add-i : goal.overflow_add-i
 overflow_add-i c =
-    let at = c in
-    omega (arith, within at.loop-left.invariant at.loop-left-test.true, at.well_formed)
+    omega (arith, within c.loop-left.invariant c.loop-left-test.true, c.well_formed)
 
 pub loop-left-preserved : goal.loop-left-preserved
 loop-left-preserved c =
-    let at = c in
-    turn at.loop-left.invariant at.loop-left-test.true c.same.ensures (ap not c.if-not-same.false)
+    turn c.loop-left.invariant c.loop-left-test.true c.same.ensures (ap not c.if-not-same.false)
 
 pub returns : goal.returns
 returns c = ends c.loop-left.invariant c.loop-left-test.false

@@ -8,15 +8,12 @@ returns-then-d-eq0 c = lines_plain _ _ c.requires.segment c.requires.d_value c.i
 
 pub print_blocks-requires : goal.print_blocks-requires
 print_blocks-requires c =
-    let read = c in
-    let on = read.if-d-eq0.false in
-    let start = read in
+    let on = c.if-d-eq0.false in
     let rules = c.rules-r.ensures in
     let first = c.start-p.ensures in
-    record { right = c.table-t.ensures; run = blocks_run _ _ start.requires.segment start.requires.d_value on read.sixteen-c.ensures rules first; room = blocks_room _ start.args.s.now start.requires.segment start.requires.d_value on read.sixteen-c.ensures rules first start.requires.room }
+    record { right = c.table-t.ensures; run = blocks_run _ _ c.requires.segment c.requires.d_value on c.sixteen-c.ensures rules first; room = blocks_room _ c.args.s.now c.requires.segment c.requires.d_value on c.sixteen-c.ensures rules first c.requires.room }
 
 pub returns : goal.returns
 returns c =
-    let read = c in
-    let pre = read.requires in
-    blocks_printed _ _ pre.segment pre.d_value read.if-d-eq0.false read.sixteen-c.ensures c.rules-r.ensures c.start-p.ensures c.print_blocks.ensures
+    let pre = c.requires in
+    blocks_printed _ _ pre.segment pre.d_value c.if-d-eq0.false c.sixteen-c.ensures c.rules-r.ensures c.start-p.ensures c.print_blocks.ensures

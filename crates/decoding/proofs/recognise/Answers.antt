@@ -16,13 +16,11 @@ pub returns-then-c-eq0 : goal.returns-then-c-eq0
 returns-then-c-eq0 c = sym (recognise_empty _ c.if-c-eq0.true)
 
 pub returns-then-c-ne127 : goal.returns-then-c-ne127
-returns-then-c-ne127 c = let seen = c in c.by_byte.ensures ∙ sym (recognise_byte _ seen.if-c-eq0.false seen.if-c-ne127.true)
+returns-then-c-ne127 c = c.by_byte.ensures ∙ sym (recognise_byte _ c.if-c-eq0.false c.if-c-ne127.true)
 
 pub returns-then-c-lt10 : goal.returns-then-c-lt10
-returns-then-c-lt10 c = let seen = c in sym (recognise_short _ seen.if-c-eq0.false seen.if-c-ne127.false c.if-c-lt10.true)
+returns-then-c-lt10 c = sym (recognise_short _ c.if-c-eq0.false c.if-c-ne127.false c.if-c-lt10.true)
 
 pub returns : goal.returns
 returns c =
-    let long = c in
-    let seen = long in
-    by-action _ _ _ seen.if-c-eq0.false seen.if-c-ne127.false long.if-c-lt10.false c.read2.ensures c.by_action.ensures
+    by-action _ _ _ c.if-c-eq0.false c.if-c-ne127.false c.if-c-lt10.false c.read2.ensures c.by_action.ensures

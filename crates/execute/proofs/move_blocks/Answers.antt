@@ -6,7 +6,7 @@ use Rattle.execute.proofs.Outcomes.{within, shaped, part, fitted, blocks_are, re
 use Rattle.execute.proofs.move_blocks.Goals as goal
 
 pub slice_bounds-hand_out-count : goal.slice_bounds-hand_out-count
-slice_bounds-hand_out-count c = let start = c in omega (arith, start.requires.at_value.1)
+slice_bounds-hand_out-count c = omega (arith, c.requires.at_value.1)
 
 pub slice_bounds-hand_out-end : goal.slice_bounds-hand_out-end
 slice_bounds-hand_out-end c = let pre = c.requires in within pre.ready _ _ pre.at_value.0 pre.at_value.1
@@ -23,14 +23,12 @@ store-requires c =
 
 pub returns-in-Read : goal.returns-in-Read
 returns-in-Read c =
-    let told = c in
-    let pre = told.requires in
-    read_moved _ _ _ _ told.in-Read.is _ _ (blocks_are _ _ _ _ _ pre.at_value.0 pre.at_value.1) c.hand_out.ensures
+    let pre = c.requires in
+    read_moved _ _ _ _ c.in-Read.is _ _ (blocks_are _ _ _ _ _ pre.at_value.0 pre.at_value.1) c.hand_out.ensures
 
 pub returns-in-Write : goal.returns-in-Write
 returns-in-Write c =
-    let told = c in
-    write_moved _ _ _ _ told.in-Write.is _ _ told.requires.at_value.0 c.store.ensures
+    write_moved _ _ _ _ c.in-Write.is _ _ c.requires.at_value.0 c.store.ensures
 
 pub returns-in-Verify : goal.returns-in-Verify
 returns-in-Verify c = verify_moved _ _ _ _ c.in-Verify.is

@@ -17,30 +17,22 @@ overflow_add-end c = omega (arith, within c.requires _ _ c.offset-at.ensures (en
 
 pub slice_bounds-verdict-end : goal.slice_bounds-verdict-end
 slice_bounds-verdict-end c =
-    let span = c in
-    within span.requires _ _ span.offset-at.ensures (ends _ _ _ span.span.ensures)
+    within c.requires _ _ c.offset-at.ensures (ends _ _ _ c.span.ensures)
 
 pub verdict-a-requires : goal.verdict-a-requires
 verdict-a-requires c =
-    let span = c in
-    let pre = span.requires in
-    let there = part pre _ _ _ refl span.offset-at.ensures (ends _ _ _ span.span.ensures) in
-    record { right = span.table-t.ensures; shaped = shaped pre; sided = (sent pre, λ n. there); paired = paired pre _ there }
+    let pre = c.requires in
+    let there = part pre _ _ _ refl c.offset-at.ensures (ends _ _ _ c.span.ensures) in
+    record { right = c.table-t.ensures; shaped = shaped pre; sided = (sent pre, λ n. there); paired = paired pre _ there }
 
 pub returns-then-not-is_good : goal.returns-then-not-is_good
 returns-then-not-is_good c =
-    let judged = c in
-    let span = c in
-    refused_performed _ _ _ _ _ _ _ (blocks_are _ _ _ _ _ span.offset-at.ensures (ends _ _ _ span.span.ensures)) judged.verdict-a.ensures c.is_good.ensures (ap not c.if-not-is_good.true)
+    refused_performed _ _ _ _ _ _ _ (blocks_are _ _ _ _ _ c.offset-at.ensures (ends _ _ _ c.span.ensures)) c.verdict-a.ensures c.is_good.ensures (ap not c.if-not-is_good.true)
 
 pub move_blocks-requires : goal.move_blocks-requires
 move_blocks-requires c =
-    let span = c in
-    record { right = span.table-t.ensures; ready = span.requires; at_value = (span.offset-at.ensures, ends _ _ _ span.span.ensures) }
+    record { right = c.table-t.ensures; ready = c.requires; at_value = (c.offset-at.ensures, ends _ _ _ c.span.ensures) }
 
 pub returns : goal.returns
 returns c =
-    let good = c in
-    let judged = good in
-    let span = good in
-    good_performed _ _ _ _ _ _ _ (blocks_are _ _ _ _ _ span.offset-at.ensures (ends _ _ _ span.span.ensures)) judged.verdict-a.ensures good.is_good.ensures (ap not good.if-not-is_good.false) _ c.move_blocks.ensures
+    good_performed _ _ _ _ _ _ _ (blocks_are _ _ _ _ _ c.offset-at.ensures (ends _ _ _ c.span.ensures)) c.verdict-a.ensures c.is_good.ensures (ap not c.if-not-is_good.false) _ c.move_blocks.ensures

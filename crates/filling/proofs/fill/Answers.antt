@@ -38,8 +38,7 @@ returns-then-not-is_good c = hands_on _ _ _ _ _ c.segment_rules-a.ensures c.is_g
 pub returns-then-d-eq0 : goal.returns-then-d-eq0
 unfolding filled
 returns-then-d-eq0 c =
-    let typed = c in
-    leaves_new _ _ _ _ _ c.segment_rules-a.ensures c.is_good.ensures (ap not c.if-not-is_good.false) (plain _ _ _ (fitting _ _ _ c.is_good.ensures (ap not c.if-not-is_good.false) _ c.segment_rules-a.ensures).1 typed.if-d-eq0.true c.fill_with.ensures)
+    leaves_new _ _ _ _ _ c.segment_rules-a.ensures c.is_good.ensures (ap not c.if-not-is_good.false) (plain _ _ _ (fitting _ _ _ c.is_good.ensures (ap not c.if-not-is_good.false) _ c.segment_rules-a.ensures).1 c.if-d-eq0.true c.fill_with.ensures)
 
 pub size-size-requires : goal.size-size-requires
 size-size-requires c = (fitting _ _ _ c.is_good.ensures (ap not c.if-not-is_good.false) _ c.segment_rules-a.ensures).0
@@ -52,12 +51,10 @@ overflow_mul-count c = omega (arith, few _ _ (fitting _ _ _ c.is_good.ensures (a
 
 pub fill_intervals-requires : goal.fill_intervals-requires
 fill_intervals-requires c =
-    let typed = c in
     let f = fitting _ _ _ c.is_good.ensures (ap not c.if-not-is_good.false) _ c.segment_rules-a.ensures in
-    whole _ _ _ _ f.0 typed.if-d-eq0.false c.size-size.ensures c.intervals.ensures f.1
+    whole _ _ _ _ f.0 c.if-d-eq0.false c.size-size.ensures c.intervals.ensures f.1
 
 pub returns : goal.returns
 unfolding filled
 returns c =
-    let typed = c in
-    leaves_new _ _ _ _ _ c.segment_rules-a.ensures c.is_good.ensures (ap not c.if-not-is_good.false) (fields _ _ _ _ typed.if-d-eq0.false c.size-size.ensures c.intervals.ensures c.fill_intervals.ensures)
+    leaves_new _ _ _ _ _ c.segment_rules-a.ensures c.is_good.ensures (ap not c.if-not-is_good.false) (fields _ _ _ _ c.if-d-eq0.false c.size-size.ensures c.intervals.ensures c.fill_intervals.ensures)

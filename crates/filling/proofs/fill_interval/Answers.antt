@@ -26,5 +26,4 @@ made size d mid end h m e =
 
 pub returns : goal.returns
 returns c =
-    let at_entry_lem = c in
-    made at_entry_lem.args.size at_entry_lem.args.d.now _ _ at_entry_lem.requires c.fill_with.ensures c.fill_with-2.ensures
+    made c.args.size c.args.d.now _ _ c.requires c.fill_with.ensures c.fill_with-2.ensures

@@ -22,10 +22,9 @@ loop-i-init c = (refl, zero-le, refl, lit< tt, sym (guard_from_zero _))
 pub loop-i-preserved : goal.loop-i-preserved
 loop-i-preserved c =
     let l = c.loop-i in
-    let start = c in
-    let s = start.args.«data».now in
+    let s = c.args.«data».now in
     let here : l.i < length s = omega arith in
-    let next = table_next _ s l.r _ l.i _ start.requires.right l.invariant.3 here (c.type_inv.data l.i).fits c.table_step-r.ensures l.invariant.4 in
+    let next = table_next _ s l.r _ l.i _ c.requires.right l.invariant.3 here (c.type_inv.data l.i).fits c.table_step-r.ensures l.invariant.4 in
     (simp length-set l.invariant.0, omega arith, copied_next l.d s l.i (omega arith) here l.invariant.2, next.0, next.1)
 
 pub returns : goal.returns

@@ -41,13 +41,11 @@ read2-v-requires c = two-left _ _ c.loop-i.invariant.even c.loop-i-test.true
 
 pub loop-i-preserved : goal.loop-i-preserved
 loop-i-preserved c =
-    let turn = c in
-    let l = turn.loop-i in
-    let start = turn in
-    let s = start.args.«data».now in
-    let byte = turn.type_inv.data in
-    let here = two-left _ _ l.invariant.even turn.loop-i-test.true in
-    let next = rows_next _ start.requires s l.r _ l.i _ _ l.invariant.small here (byte l.i).fits (byte (l.i + 1)).fits c.read2-v.ensures c.rows_step-r.ensures l.invariant.same in
+    let l = c.loop-i in
+    let s = c.args.«data».now in
+    let byte = c.type_inv.data in
+    let here = two-left _ _ l.invariant.even c.loop-i-test.true in
+    let next = rows_next _ c.requires s l.r _ l.i _ _ l.invariant.small here (byte l.i).fits (byte (l.i + 1)).fits c.read2-v.ensures c.rows_step-r.ensures l.invariant.same in
     record { fewer = omega arith; even = still-even _ _ l.invariant.even here; small = next.0; same = next.1 }
 
 pub returns : goal.returns

@@ -20,7 +20,6 @@ returns-then-data-eq0 c = even c.args.«data».now c.if-data-eq0.true
 
 pub returns : goal.returns
 returns c =
-    let start = c in
-    let s = start.args.«data».now in
+    let s = c.args.«data».now in
     odd s _ c.if-data-eq0.false
-    (rows_first _ start.requires s _ (omega (arith, c.if-data-eq0.false)) (c.type_inv.data 0).fits c.rows_step.ensures)
+    (rows_first _ c.requires s _ (omega (arith, c.if-data-eq0.false)) (c.type_inv.data 0).fits c.rows_step.ensures)

@@ -62,8 +62,7 @@ write2-requires c = let l = c.loop-left in rw l.invariant.kept (room l.invariant
 
 pub overflow_add-at : goal.overflow_add-at
 overflow_add-at c =
-    let here = c in
-    omega (arith, room here.loop-left.invariant here.loop-left-test.true, here.well_formed)
+    omega (arith, room c.loop-left.invariant c.loop-left-test.true, c.well_formed)
 
 pub overflow_sub-left : goal.overflow_sub-left
 overflow_sub-left c = search rules

@@ -61,14 +61,12 @@ returns-then-not-both c = refused _ _ _ (λ f. unequal _ _ _ _ _ c.both.ensures 
 
 pub fill_guards-requires : goal.fill_guards-requires
 fill_guards-requires c =
-    let test = c in
-    let two = equal _ _ _ _ _ test.both.ensures (ap not test.if-not-both.false) in
+    let two = equal _ _ _ _ _ c.both.ensures (ap not c.if-not-both.false) in
     record { right = c.table-t.ensures; size_value = all _ _ two.0; count_value = sym two.1 }
 
 pub returns : goal.returns
 returns c =
-    let test = c in
-    let two = equal _ _ _ _ _ test.both.ensures (ap not test.if-not-both.false) in
+    let two = equal _ _ _ _ _ c.both.ensures (ap not c.if-not-both.false) in
     good _ _ _ _
     (record { some = omega arith; whole = two.0; room = two.1 })
     c.fill_guards.ensures

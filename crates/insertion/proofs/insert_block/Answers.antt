@@ -19,8 +19,7 @@ interval-of size i m s new h e =
 pub loop-left-init : goal.loop-left-init
 unfolding stored_block
 loop-left-init c =
-    let start = c in
-    begin _ _ _ _ 0 _ _ _ _ _ _ start.requires.size_value (rw zero-add start.requires.size_value_2) (le_refl _) refl (block_length _ _ _ _ (le_of_eq start.requires.size_value))
+    begin _ _ _ _ 0 _ _ _ _ _ _ c.requires.size_value (rw zero-add c.requires.size_value_2) (le_refl _) refl (block_length _ _ _ _ (le_of_eq c.requires.size_value))
 
 pub overflow_add-j : goal.overflow_add-j
 overflow_add-j c = omega (arith, within c.loop-left.invariant c.loop-left-test.true, c.well_formed)
@@ -36,13 +35,11 @@ slice_bounds-insert_interval-end c = omega (arith, room c.loop-left.invariant c.
 
 pub loop-left-preserved : goal.loop-left-preserved
 loop-left-preserved c =
-    let test = c in
-    let l = test.loop-left in
-    turn l.invariant _ _ test.loop-left-test.true c.insert_interval.auto.d
-    (interval-of _ l.i _ _ _ (within l.invariant test.loop-left-test.true) c.insert_interval.ensures)
+    let l = c.loop-left in
+    turn l.invariant _ _ c.loop-left-test.true c.insert_interval.auto.d
+    (interval-of _ l.i _ _ _ (within l.invariant c.loop-left-test.true) c.insert_interval.ensures)
     (marks_later 1 _ _ _ _ _ (sym (one-mul _)) c.wrapping_add_u32-reference.ensures.value)
 
 pub returns : goal.returns
 returns c =
-    let start = c in
-    done c.loop-left.invariant c.loop-left-test.false ∙ put_all _ _ (block_length _ _ _ _ (le_of_eq start.requires.size_value) ∙ start.requires.size_value_2)
+    done c.loop-left.invariant c.loop-left-test.false ∙ put_all _ _ (block_length _ _ _ _ (le_of_eq c.requires.size_value) ∙ c.requires.size_value_2)

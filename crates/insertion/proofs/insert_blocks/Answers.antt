@@ -22,8 +22,7 @@ overflow_mul-by c = let small = c.requires.size_bound in omega (arith, mul-le-mu
 pub loop-left-init : goal.loop-left-init
 unfolding stored_blocks
 loop-left-init c =
-    let start = c in
-    begin _ _ _ _ _ _ _ _ _ _ _ start.requires.size_value refl start.requires.size_in_bounds refl (blocks_length _ _ _ _ _ (le_of_eq start.requires.size_value))
+    begin _ _ _ _ _ _ _ _ _ _ _ c.requires.size_value refl c.requires.size_in_bounds refl (blocks_length _ _ _ _ _ (le_of_eq c.requires.size_value))
 
 pub overflow_add-j : goal.overflow_add-j
 overflow_add-j c = omega (arith, within c.loop-left.invariant c.loop-left-test.true, c.well_formed)
@@ -36,10 +35,9 @@ slice_bounds-insert_block-end c = room c.loop-left.invariant c.loop-left-test.tr
 
 pub loop-left-preserved : goal.loop-left-preserved
 loop-left-preserved c =
-    let test = c in
-    let l = test.loop-left in
-    turn l.invariant _ _ test.loop-left-test.true c.insert_block.auto.d
-    (of_part (stored_block _ _ _) _ l.i _ _ (block_behind _ _ _) (within l.invariant test.loop-left-test.true) c.insert_block.ensures)
+    let l = c.loop-left in
+    turn l.invariant _ _ c.loop-left-test.true c.insert_block.auto.d
+    (of_part (stored_block _ _ _) _ l.i _ _ (block_behind _ _ _) (within l.invariant c.loop-left-test.true) c.insert_block.ensures)
     (marks_later _ _ _ _ _ _ refl c.wrapping_add_u32-reference.ensures.value)
 
 pub returns : goal.returns

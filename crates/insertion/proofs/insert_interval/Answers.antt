@@ -33,11 +33,8 @@ copy_with_guard-g-requires c = record { right = search rules; data_len = sym (le
 
 pub returns : goal.returns
 returns c =
-    let wrote = c in
-    let copied = wrote in
-    let start = copied in
-    interval-made _ _ start.args.s.now start.args.d.now copied.copy_with_guard-g.new.d _
-    start.requires.s_len
-    copied.copy_with_guard-g.ensures.1
-    copied.copy_with_guard-g.ensures.0
-    wrote.write.ensures
+    interval-made _ _ c.args.s.now c.args.d.now c.copy_with_guard-g.new.d _
+    c.requires.s_len
+    c.copy_with_guard-g.ensures.1
+    c.copy_with_guard-g.ensures.0
+    c.write.ensures

@@ -80,16 +80,14 @@ slice_bounds-judge_block-end c = within c.loop-left.invariant c.loop-left-test.t
 
 pub judge_block-a-requires : goal.judge_block-a-requires
 judge_block-a-requires c =
-    let at = c in
-    record { right = at.requires.right; run = rw at.place_on-here.ensures (first at.loop-left.invariant at.loop-left-test.true) }
+    record { right = c.requires.right; run = rw c.place_on-here.ensures (first c.loop-left.invariant c.loop-left-test.true) }
 
 pub returns-then-not-is_good : goal.returns-then-not-is_good
 returns-then-not-is_good c = search stop
 
 pub next_block-tag-requires : goal.next_block-tag-requires
 next_block-tag-requires c =
-    let at = c in
-    more at.loop-left.invariant at.loop-left-test.true at.place_on-here.ensures
+    more c.loop-left.invariant c.loop-left-test.true c.place_on-here.ensures
 
 pub loop-left-preserved : goal.loop-left-preserved
 loop-left-preserved c = search turn

@@ -74,14 +74,11 @@ returns-then-not-is_good c = search stop
 
 pub next_interval-tag-requires : goal.next_interval-tag-requires
 next_interval-tag-requires c =
-    let at = c in
-    more at.loop-left.invariant at.loop-left-test.true at.place_on-here.ensures
+    more c.loop-left.invariant c.loop-left-test.true c.place_on-here.ensures
 
 pub loop-left-preserved : goal.loop-left-preserved
 loop-left-preserved c =
-    let b = c in
-    let at = b in
-    turn at.loop-left.invariant at.loop-left-test.true at.place_on-here.ensures b.judge_pieces-a.ensures b.is_good.ensures
+    turn c.loop-left.invariant c.loop-left-test.true c.place_on-here.ensures c.judge_pieces-a.ensures c.is_good.ensures
     (ap not c.if-not-is_good.false) c.next_interval-tag.ensures
 
 pub returns : goal.returns

@@ -19,13 +19,10 @@ print_segment-sheet-requires c =
 
 pub print_total-requires : goal.print_total-requires
 print_total-requires c =
-    let lines = c in
-    let header = lines in
-    let pre = header.requires in
-    omega (arith, lines_end _ _ pre.segment pre.d_value (omega (arith, header.put_word-at.ensures.end)) pre.s_len_bound lines.print_segment-sheet.ensures)
+    let pre = c.requires in
+    omega (arith, lines_end _ _ pre.segment pre.d_value (omega (arith, c.put_word-at.ensures.end)) pre.s_len_bound c.print_segment-sheet.ensures)
 
 pub returns : goal.returns
 unfolding header_text
 returns c =
-    let lines = c in
-    listed_written _ _ lines.put_word-at.ensures lines.print_segment-sheet.ensures c.print_total.ensures
+    listed_written _ _ c.put_word-at.ensures c.print_segment-sheet.ensures c.print_total.ensures

@@ -5,6 +5,4 @@ use Rattle.parity.proofs.join_stretch.Goals as goal
 
 pub returns : goal.returns
 returns c =
-    let half = c in
-    let cleared = half in
-    stretch_of_joined _ _ _ _ _ _ _ _ _ _ cleared.requires.0 (search rules) (search rules) cleared.fill_with.ensures half.xor_stretch.ensures c.xor_stretch-2.ensures
+    stretch_of_joined _ _ _ _ _ _ _ _ _ _ c.requires.0 (search rules) (search rules) c.fill_with.ensures c.xor_stretch.ensures c.xor_stretch-2.ensures

@@ -87,21 +87,18 @@ overflow_add-next_end c = omega (arith, within-two c.loop-left.invariant c.loop-
 
 pub overflow_add-i : goal.overflow_add-i
 overflow_add-i c =
-    let here = c in
-    omega (arith, within-two here.loop-left.invariant here.loop-left-test.true, here.well_formed)
+    omega (arith, within-two c.loop-left.invariant c.loop-left-test.true, c.well_formed)
 
 pub overflow_add-i-in-loop-left : goal.overflow_add-i-in-loop-left
 overflow_add-i-in-loop-left c =
-    let here = c in
-    omega (arith, within-two here.loop-left.invariant here.loop-left-test.true, here.well_formed)
+    omega (arith, within-two c.loop-left.invariant c.loop-left-test.true, c.well_formed)
 
 pub loop-left-smaller : goal.loop-left-smaller
 loop-left-smaller c = two-less _ c.loop-left-test.true
 
 pub loop-left-preserved : goal.loop-left-preserved
 loop-left-preserved c =
-    let test = c in
-    turn_two test.loop-left.invariant test.loop-left-test.true c.xor_two.ensures
+    turn_two c.loop-left.invariant c.loop-left-test.true c.xor_two.ensures
 
 pub returns-then-left-eq0 : goal.returns-then-left-eq0
 returns-then-left-eq0 c =

@@ -40,5 +40,4 @@ buffer_rule-requires c = record { segment = c.requires; length_bound = short _ c
 pub returns : goal.returns
 unfolding refusal
 returns c =
-    let last = c in
-    c.buffer_rule.ensures ∙ sym (goes_on _ _ _ _ c.type_rules-kind.ensures c.is_good.ensures (ap not c.if-not-is_good.false) ∙ goes_on _ _ _ _ c.code_rule-code.ensures c.is_good-2.ensures (ap not c.if-not-is_good-2.false) ∙ goes_on _ _ _ _ c.check_rule-check.ensures c.is_good-3.ensures (ap not c.if-not-is_good-3.false) ∙ goes_on _ _ _ _ c.range_rule-range.ensures c.is_good-4.ensures (ap not c.if-not-is_good-4.false) ∙ goes_on _ _ _ _ last.size_rule-size.ensures last.is_good-5.ensures (ap not last.if-not-is_good-5.false))
+    c.buffer_rule.ensures ∙ sym (goes_on _ _ _ _ c.type_rules-kind.ensures c.is_good.ensures (ap not c.if-not-is_good.false) ∙ goes_on _ _ _ _ c.code_rule-code.ensures c.is_good-2.ensures (ap not c.if-not-is_good-2.false) ∙ goes_on _ _ _ _ c.check_rule-check.ensures c.is_good-3.ensures (ap not c.if-not-is_good-3.false) ∙ goes_on _ _ _ _ c.range_rule-range.ensures c.is_good-4.ensures (ap not c.if-not-is_good-4.false) ∙ goes_on _ _ _ _ c.size_rule-size.ensures c.is_good-5.ensures (ap not c.if-not-is_good-5.false))

@@ -14,5 +14,4 @@ returns-then-d-eq2 c = sym (short_two _ _ c.if-c.false c.if-d-eq2.true c.if-c-eq
 
 pub returns : goal.returns
 returns c =
-    let two = c in
-    c.refused_if-2.ensures ∙ short_other _ _ two.if-c.false two.if-d-eq2.false two.if-c-eq0.false
+    c.refused_if-2.ensures ∙ short_other _ _ c.if-c.false c.if-d-eq2.false c.if-c-eq0.false

@@ -13,5 +13,4 @@ known d c tagged r e f = rw e at f
 
 pub returns : goal.returns
 returns c =
-    let start = c in
-    known start.args.d start.args.c _ _ c.both.ensures c.either.ensures
+    known c.args.d c.args.c _ _ c.both.ensures c.either.ensures

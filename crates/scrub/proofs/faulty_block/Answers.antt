@@ -44,10 +44,8 @@ overflow_add-d c = let w = c.requires.looked in omega (arith, w.inside, w.segmen
 
 pub faulty_intervals-requires : goal.faulty_intervals-requires
 faulty_intervals-requires c =
-    let start = c in
-    record { right_rows = start.requires.right_rows; stretch = fits start.args.s.now start.requires.looked c.sixteen.ensures c.start-p.ensures }
+    record { right_rows = c.requires.right_rows; stretch = fits c.args.s.now c.requires.looked c.sixteen.ensures c.start-p.ensures }
 
 pub returns : goal.returns
 returns c =
-    let start = c in
-    told start.args.s.now start.requires.looked c.sixteen.ensures c.start-p.ensures c.faulty_intervals.ensures
+    told c.args.s.now c.requires.looked c.sixteen.ensures c.start-p.ensures c.faulty_intervals.ensures

@@ -93,10 +93,10 @@ pub slice_bounds-escapes-end : goal.slice_bounds-escapes-end
 slice_bounds-escapes-end c = within c.loop-left.invariant c.loop-left-test.true
 
 pub returns-then-escapes : goal.returns-then-escapes
-returns-then-escapes c = let at = c in stop at.loop-left.invariant at.loop-left-test.true c.escapes.ensures c.if-escapes.true
+returns-then-escapes c = stop c.loop-left.invariant c.loop-left-test.true c.escapes.ensures c.if-escapes.true
 
 pub slice_bounds-wrong_pieces-end : goal.slice_bounds-wrong_pieces-end
-slice_bounds-wrong_pieces-end c = let at = c in omega (arith, within at.loop-left.invariant at.loop-left-test.true)
+slice_bounds-wrong_pieces-end c = omega (arith, within c.loop-left.invariant c.loop-left-test.true)
 
 pub wrong_pieces-requires : goal.wrong_pieces-requires
 wrong_pieces-requires c =
@@ -105,14 +105,11 @@ wrong_pieces-requires c =
 
 pub next_interval-here-requires : goal.next_interval-here-requires
 next_interval-here-requires c =
-    let at = c in
-    omega (arith, at.loop-left.invariant.room, at.loop-left-test.true)
+    omega (arith, c.loop-left.invariant.room, c.loop-left-test.true)
 
 pub loop-left-preserved : goal.loop-left-preserved
 loop-left-preserved c =
-    let on = c in
-    let at = on in
-    turn at.loop-left.invariant at.loop-left-test.true on.escapes.ensures c.if-escapes.false
+    turn c.loop-left.invariant c.loop-left-test.true c.escapes.ensures c.if-escapes.false
     c.wrong_pieces.ensures c.either-wrong.ensures c.next_interval-here.ensures
 
 pub returns : goal.returns

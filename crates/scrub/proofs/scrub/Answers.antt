@@ -8,21 +8,17 @@ use Rattle.scrub.proofs.scrub.Goals as goal
 
 pub returns-then-not-is_good : goal.returns-then-not-is_good
 returns-then-not-is_good c =
-    let on = c in
-    c.refused.ensures ∙ call_refused _ _ _ _ _ _ on.scrub_rules-a.ensures on.is_good.ensures (ap not on.if-not-is_good.true)
+    c.refused.ensures ∙ call_refused _ _ _ _ _ _ c.scrub_rules-a.ensures c.is_good.ensures (ap not c.if-not-is_good.true)
 
 pub step-judged-requires : goal.step-judged-requires
 step-judged-requires c =
-    let on = c in
-    let args = on.args in
-    record { right_rows = c.rows-w.ensures; segment = call_fits _ args.s.now _ args.blocks _ _ on.scrub_rules-a.ensures on.is_good.ensures (ap not on.if-not-is_good.false) }
+    let args = c.args in
+    record { right_rows = c.rows-w.ensures; segment = call_fits _ args.s.now _ args.blocks _ _ c.scrub_rules-a.ensures c.is_good.ensures (ap not c.if-not-is_good.false) }
 
 pub overflow_add-next : goal.overflow_add-next
 overflow_add-next c =
-    let on = c in
-    omega (arith, call_room _ _ _ _ _ _ on.scrub_rules-a.ensures on.is_good.ensures (ap not on.if-not-is_good.false) c.step-judged.ensures)
+    omega (arith, call_room _ _ _ _ _ _ c.scrub_rules-a.ensures c.is_good.ensures (ap not c.if-not-is_good.false) c.step-judged.ensures)
 
 pub returns : goal.returns
 returns c =
-    let on = c in
-    call_done _ _ _ _ _ _ on.scrub_rules-a.ensures on.is_good.ensures (ap not on.if-not-is_good.false) c.step-judged.ensures
+    call_done _ _ _ _ _ _ c.scrub_rules-a.ensures c.is_good.ensures (ap not c.if-not-is_good.false) c.step-judged.ensures

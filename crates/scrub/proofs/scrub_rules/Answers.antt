@@ -13,5 +13,4 @@ returns-then-not-is_good c = sym (stops _ _ _ _ c.segment_rules-a.ensures c.is_g
 pub returns : goal.returns
 unfolding scrub_rules
 returns c =
-    let on = c in
-    c.place_rule.ensures ∙ sym (goes_on _ _ _ _ on.segment_rules-a.ensures on.is_good.ensures (ap not on.if-not-is_good.false))
+    c.place_rule.ensures ∙ sym (goes_on _ _ _ _ c.segment_rules-a.ensures c.is_good.ensures (ap not c.if-not-is_good.false))

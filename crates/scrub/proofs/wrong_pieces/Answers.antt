@@ -38,12 +38,10 @@ module _ (r : Rules) (p : Place) (d f : List ℕ) (g : r.guard ≡ true) (a : r.
 
 pub returns-then-stored_guard-guard_through_rows : goal.returns-then-stored_guard-guard_through_rows
 returns-then-stored_guard-guard_through_rows c =
-    let on = c in
-    let pre = on.requires.field_len in
-    by-guard _ _ _ _ pre.1 pre.2 on.stored_guard.ensures c.guard_through_rows.ensures c.if-stored_guard-guard_through_rows.true
+    let pre = c.requires.field_len in
+    by-guard _ _ _ _ pre.1 pre.2 c.stored_guard.ensures c.guard_through_rows.ensures c.if-stored_guard-guard_through_rows.true
 
 pub returns : goal.returns
 returns c =
-    let on = c in
-    let pre = on.requires.field_len in
-    by-reference _ _ _ _ pre.1 pre.2 on.stored_guard.ensures c.guard_through_rows.ensures c.if-stored_guard-guard_through_rows.false c.reference_wrong.ensures
+    let pre = c.requires.field_len in
+    by-reference _ _ _ _ pre.1 pre.2 c.stored_guard.ensures c.guard_through_rows.ensures c.if-stored_guard-guard_through_rows.false c.reference_wrong.ensures

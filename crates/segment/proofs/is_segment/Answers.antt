@@ -18,10 +18,6 @@ grouped d bits eights block plain power end most count x y r e₁ e₂ e₃ e₄
 
 pub returns : goal.returns
 returns c =
-    let count = c in
-    let power = count in
-    let block = power in
-    let bits = block in
-    grouped bits.args.d _ _ _ _ _ _ _ _ _ _ _ bits.both-bits.ensures block.both.ensures block.both-block.ensures
-    power.either.ensures power.both-power.ensures count.ends-end.ensures count.both-2.ensures count.both-count.ensures
+    grouped c.args.d _ _ _ _ _ _ _ _ _ _ _ c.both-bits.ensures c.both.ensures c.both-block.ensures
+    c.either.ensures c.both-power.ensures c.ends-end.ensures c.both-2.ensures c.both-count.ensures
     c.both-3.ensures c.both-4.ensures c.both-5.ensures

@@ -17,6 +17,5 @@ length-requires c = described _ _ _ c.is_good.ensures (ap not c.if-not-is_good.f
 pub returns : goal.returns
 unfolding segment_rules
 returns c =
-    let on = c in
     length_told _ _ _ _ c.refused_if.ensures c.length.ensures
-    ∙ sym (goes_on _ _ _ _ on.description_rule-a.ensures on.is_good.ensures (ap not on.if-not-is_good.false))
+    ∙ sym (goes_on _ _ _ _ c.description_rule-a.ensures c.is_good.ensures (ap not c.if-not-is_good.false))

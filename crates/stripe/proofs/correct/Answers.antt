@@ -14,19 +14,13 @@ length-long-requires c = (passed _ _ _ _ c.stripe_rules-a.ensures c.is_good.ensu
 
 pub returns-then-not-both : goal.returns-then-not-both
 returns-then-not-both c =
-    let asked = c in
-    let rules = asked in
-    correct_unfit _ _ _ _ _ _ rules.stripe_rules-a.ensures rules.is_good.ensures _ asked.length-long.ensures (ap not rules.if-not-is_good.false) _ _ asked.both-members.ensures asked.both.ensures (ap not c.if-not-both.true)
+    correct_unfit _ _ _ _ _ _ c.stripe_rules-a.ensures c.is_good.ensures _ c.length-long.ensures (ap not c.if-not-is_good.false) _ _ c.both-members.ensures c.both.ensures (ap not c.if-not-both.true)
 
 pub xor_two-requires : goal.xor_two-requires
 xor_two-requires c =
-    let asked = c in
-    members_told _ _ _ asked.length-long.result _ _ asked.both-members.ensures asked.both.ensures (ap not c.if-not-both.false)
+    members_told _ _ _ c.length-long.result _ _ c.both-members.ensures c.both.ensures (ap not c.if-not-both.false)
 
 pub returns : goal.returns
 returns c =
-    let test = c in
-    let asked = test in
-    let rules = asked in
-    correct_good _ _ _ _ _ _ rules.stripe_rules-a.ensures rules.is_good.ensures _ asked.length-long.ensures (ap not rules.if-not-is_good.false) _ _ asked.both-members.ensures asked.both.ensures (ap not test.if-not-both.false) _
+    correct_good _ _ _ _ _ _ c.stripe_rules-a.ensures c.is_good.ensures _ c.length-long.ensures (ap not c.if-not-is_good.false) _ _ c.both-members.ensures c.both.ensures (ap not c.if-not-both.false) _
     c.xor_two.ensures

@@ -14,6 +14,5 @@ returns-then-not-is_good c = sym (stops _ _ _ _ c.description_rule-a.ensures c.i
 pub returns : goal.returns
 unfolding stripe_rules
 returns c =
-    let on = c in
     c.refused_if.ensures ∙ ap (λ (b : Bool). refused_if (not b) reasons.StripeShapeBad) c.both.ensures
-    ∙ sym (goes_on _ _ _ _ on.description_rule-a.ensures on.is_good.ensures (ap not on.if-not-is_good.false))
+    ∙ sym (goes_on _ _ _ _ c.description_rule-a.ensures c.is_good.ensures (ap not c.if-not-is_good.false))

@@ -1,9 +1,6 @@
 -- `words::copy`: what is copied and what is left make up the source.
-use mathlib.Core.Path.{◌≡◌}
-use mathlib.Core.List.{◌++◌}
-use Prim.Native.Nat.{◌≤◌, ◌-◌}
 use native.Mathlib.Omega.{arith}
-use lib.ListN.{length, take, drop, length-set}
+use lib.ListN.{length-set}
 use Rattle.words.proofs.Parts.{copied_next, copied}
 use Rattle.words.proofs.copy.Goals as goal
 

@@ -1,11 +1,8 @@
 -- `words::read`: what is left to read gives, behind what was read, the whole number; i bytes make less than 256 ^ i.
-use mathlib.Core.Path.{◌≡◌, refl}
-use Prim.Native.Nat.{◌≤◌, ◌<◌, ◌^◌, ◌-◌, zero-le}
-use native.Mathlib.Omega.{arith}
-use lib.Dec.{lit<}
+use mathlib.Core.Path.{◌≡◌}
+use Prim.Native.Nat.{◌≤◌, ◌<◌, ◌^◌, ◌-◌}
 use lib.ListN.{length, drop}
 use Rattle.words.specs.BigEndian.{number_from, number}
-use Rattle.words.proofs.BigEndian.{read_next, read_end, grown, room}
 use Rattle.words.proofs.read.Given as goal
 
 abbrev pub invariant-loop-i : goal.invariant-loop-i

@@ -4,7 +4,7 @@ use mathlib.Core.List.{List, ◌++◌, append-nil}
 use Prim.Native.Nat.{ℕ, zero, suc, ◌≤◌}
 use native.Mathlib.Nat.{le_refl}
 use native.Mathlib.Omega.{arith}
-use lib.ListN.{length, drop, length-set}
+use lib.ListN.{drop, length-set}
 use lib.Seq.{drop-length}
 use Rattle.words.specs.BigEndian.{bytes}
 use Rattle.words.proofs.BigEndian.{write_next}

@@ -1,13 +1,9 @@
 -- `words::write`: the bytes still to be written, before those that stand, are the bytes of the whole number.
-use mathlib.Core.Path.{◌≡◌, refl}
-use mathlib.Core.List.{List, ◌++◌, append-nil}
-use Prim.Native.Nat.{ℕ, zero, suc, ◌≤◌}
-use native.Mathlib.Nat.{le_refl}
-use native.Mathlib.Omega.{arith}
-use lib.ListN.{length, drop, length-set}
-use lib.Seq.{drop-length}
+use mathlib.Core.Path.{◌≡◌}
+use mathlib.Core.List.{◌++◌}
+use Prim.Native.Nat.{◌≤◌}
+use lib.ListN.{length, drop}
 use Rattle.words.specs.BigEndian.{bytes}
-use Rattle.words.proofs.BigEndian.{write_next}
 use Rattle.words.proofs.write.Given as goal
 
 abbrev pub invariant-loop-i : goal.invariant-loop-i

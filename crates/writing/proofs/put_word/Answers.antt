@@ -1,13 +1,13 @@
 -- `writing::put_word`: the bytes that stand, and one byte more a turn.
 use mathlib.Core.Path.{◌≡◌}
 use mathlib.Core.List.{List, [], ◌∷◌}
-use Prim.Native.Nat.{ℕ, ◌+◌, ◌-◌, ◌<◌, ◌≤◌}
+use Prim.Native.Nat.{ℕ, ◌+◌, ◌<◌}
 use native.Mathlib.Numerals.{add-one}
 use native.Mathlib.Omega.{arith}
-use lib.ListN.{length, take, get_or}
+use lib.ListN.{length, get_or}
 use lib.Seq.{take-suc, take_all, length-take-le}
 use Rattle.writing.specs.Laid.{Written}
-use Rattle.writing.proofs.Writing.{written_none, written_then, written_length}
+use Rattle.writing.proofs.Writing.{written_none, written_then}
 use Rattle.writing.proofs.put_word.Invariants.{Going}
 use Rattle.writing.proofs.put_word.Goals as goal
 
