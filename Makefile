@@ -10,8 +10,7 @@ DESTDIR =
 VERSION = 0.1.0
 CFLAGS = -O2
 quietly = $(if $(filter 1,$(V)),,@)
-# The archive that is installed. target/native/liblamptassel.a is for this machine, also
-# where that is not x86-64.
+# The archive that is installed; it is for x86-64.
 ARCHIVE = target/staticlib/liblamptassel.a
 
 SOURCES = crates.txt $(wildcard crates/*/src/*.rt crates/*/specs/*.antt crates/*/proofs/*.antt crates/*/proofs/*/*.antt)
@@ -26,9 +25,9 @@ target/native/liblamptassel.a: $(SOURCES)
 target/staticlib/liblamptassel.a: target/native/liblamptassel.a
 	$(quietly)[ -f $@ ] || tools/archive
 
-# rt leaves a program that needs no new proof as old as it is.
+# A program that needs no new proof is left as old as it is.
 target/bin/list: $(SOURCES)
-	$(quietly)tools/prove check list
+	$(quietly)tools/prove run list
 	$(quietly)touch -c $@
 	$(quietly)test -s $@
 
@@ -50,7 +49,7 @@ install: all
 	sed -e 's|@PREFIX@|$(PREFIX)|' -e 's|@VERSION@|$(VERSION)|' lamptassel.pc.in >"$(place)/lib/pkgconfig/lamptassel.pc"
 	chmod 644 "$(place)/lib/pkgconfig/lamptassel.pc"
 	@[ "$$(uname -m)" = x86_64 ] || \
-	    echo "install: these are for x86-64, not for this machine: $(filter-out target/native/%,$(ARCHIVE)) target/bin/list" >&2
+	    echo "install: these are for x86-64, not for this machine: $(ARCHIVE) target/bin/list" >&2
 
 uninstall:
 	rm -f "$(place)/lib/liblamptassel.a" "$(place)/include/lamptassel.h" "$(place)/bin/lamptassel-list" \
@@ -58,5 +57,5 @@ uninstall:
 
 .PHONY: all incident check install uninstall
 
-# Two runs of rt would write the same target folder.
+# Two runs of tools/prove would write the same target folder.
 .NOTPARALLEL:
