@@ -18,7 +18,6 @@ use Rattle.refusal.specs.declared.Lengths.{Lengths}
 use Rattle.admission.specs.declared.Admitted.TheVariants.{Refused}
 use Rattle.admission.specs.Admission.{admit_command, admitted}
 use mathlib.Core.Path.{ap}
-use borrow.Author.Rules.{rules}
 use Rattle.admission.proofs.admit.Goals as goal
 
 -- `a` is what the segment's rules answered, `g` whether that is good

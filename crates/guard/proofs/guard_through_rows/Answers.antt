@@ -3,9 +3,8 @@ use mathlib.Core.Path.{◌≡◌, sym, ap, ◌∙◌}
 use mathlib.Core.List.{List}
 use Prim.Native.Nat.{ℕ, ◌+◌, ◌-◌, ◌%◌, ◌≤◌, ◌<◌}
 use native.Mathlib.Omega.{arith}
-use lib.ListN.{length, take, drop, take-append-drop}
+use lib.ListN.{length, take, take-append-drop}
 use Rattle.guard.specs.Guard.{guard}
-use Rattle.guard.specs.Remainder.{guard_from}
 use Rattle.guard.proofs.ByRows.{rows_next}
 use Rattle.guard.proofs.Laws.{guard_lt, guard_append}
 use Rattle.guard.proofs.Remainder.{guard_end}

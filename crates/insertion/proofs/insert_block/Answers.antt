@@ -1,13 +1,12 @@
 -- `insertion::insert_block`: one stored interval after the other is put in its place.
-use Rattle.std.proofs.Common.{◌≡◌, ℕ, ◌+◌, ◌-◌, ◌≤◌, List, length, take, drop, sym, refl, ap, ◌∙◌, le_of_eq, le_refl, one-mul, zero-add, arith, rules}
-use Rattle.words.specs.Parts.{put}
+use Rattle.std.proofs.Common.{◌≡◌, ℕ, ◌+◌, ◌-◌, ◌≤◌, List, length, take, drop, sym, refl, ap, ◌∙◌, le_of_eq, le_refl, one-mul, zero-add, arith}
 use Rattle.words.proofs.BigEndian.{part_length}
-use Rattle.blocks.proofs.Filling.{Filling, within, room, turn, done, begin}
+use Rattle.blocks.proofs.Filling.{within, room, turn, done, begin}
 use Rattle.blocks.proofs.Places.{put_all}
 use Rattle.blocks.proofs.Pieces.{of_part}
 use Rattle.insertion.specs.declared.Marks.{Marks}
-use Rattle.insertion.specs.Insertion.{with_field, later, stored_block}
-use Rattle.insertion.proofs.Laws.{marks, marks_later, block_length, interval_behind}
+use Rattle.insertion.specs.Insertion.{with_field, stored_block}
+use Rattle.insertion.proofs.Laws.{marks_later, block_length, interval_behind}
 use Rattle.insertion.proofs.insert_block.Goals as goal
 
 interval-of : (size i : ℕ) (m : Marks) (s new : List ℕ) → i + size ≤ length s → new ≡ with_field (length (take (i + size - i) (drop i s))) m (take (i + size - i) (drop i s))

@@ -1,16 +1,15 @@
 -- `judge::judge_blocks`: the blocks that are left give, from the place reached, what all of them give; each is judged by its own bytes.
-use Rattle.std.proofs.Common.{◌≡◌, ℕ, suc, ◌+◌, ◌-◌, ◌*◌, ◌%◌, ◌^◌, ◌<◌, ◌≤◌, Bool, true, false, not, List, length, take, drop, sym, refl, ap, ◌∙◌, zero-le, le_refl, add-zero, add_assoc, add-suc, suc-mul, zero-mul, add-one, arith, rules}
+use Rattle.std.proofs.Common.{◌≡◌, ℕ, suc, ◌+◌, ◌-◌, ◌*◌, ◌%◌, ◌^◌, ◌<◌, ◌≤◌, Bool, true, false, not, List, length, take, drop, sym, refl, ap, ◌∙◌, add_assoc, add-suc, suc-mul, add-one, arith}
 use borrow.Author.Tests.{not-true, not-false}
 use Rattle.words.proofs.Parts.{part_at}
 use Rattle.answer.specs.Answer.{is_good}
 use Rattle.answer.specs.declared.Answer.{Answer}
 use Rattle.interval.specs.declared.Rules.{Rules}
 use Rattle.interval.specs.declared.Place.{Place}
-use Rattle.judge.specs.FirstOf.{first_of}
 use Rattle.judge.specs.Judge.{judge_block, judge_blocks, place_on, next_block, Run}
 use Rattle.judge.proofs.FirstLaws.{first_next, first_stop, first_end}
 use Rattle.judge.proofs.BlockLaws.{own_block, first_within, first_run, first_room, rest_run, block_fits}
-use Rattle.judge.proofs.judge_blocks.Invariants.{reach, reached-none, Going, begins}
+use Rattle.judge.proofs.judge_blocks.Invariants.{reach, Going, begins}
 use Rattle.judge.proofs.judge_blocks.Goals as goal
 
 reach-next : (r : Rules) (count left : ℕ) → 0 < left → left ≤ count → reach r count (left - 1) ≡ reach r count left + r.intervals * (r.size + 8)

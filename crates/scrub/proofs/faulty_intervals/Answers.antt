@@ -2,7 +2,7 @@
 use mathlib.Core.Path.{◌≡◌, refl, sym, ap, ap₂, ◌∙◌}
 use mathlib.Core.Bool.{Bool, true, false, not, ◌&&◌, ◌||◌}
 use mathlib.Core.List.{List}
-use Prim.Native.Nat.{ℕ, zero, suc, ◌+◌, ◌*◌, ◌-◌, ◌^◌, ◌<◌, ◌≤◌}
+use Prim.Native.Nat.{ℕ, zero, suc, ◌+◌, ◌-◌, ◌<◌, ◌≤◌}
 use native.Mathlib.Nat.{zero-add, add_assoc}
 use native.Mathlib.Omega.{arith}
 use lib.ListN.{length, take, drop}
@@ -15,7 +15,7 @@ use Rattle.field.specs.Field.{field_of}
 use Rattle.field.proofs.Laws.{interval_within, interval_rest, data_part, field_part}
 use Rattle.interval.specs.declared.Rules.{Rules}
 use Rattle.interval.specs.declared.Place.{Place}
-use Rattle.interval.specs.Interval.{escapes, any_escapes, judge_pieces, judge_interval}
+use Rattle.interval.specs.Interval.{escapes, judge_pieces, judge_interval}
 use Rattle.interval.proofs.IntervalLaws.{any_next, any_stop, any_end}
 use Rattle.judge.specs.FirstOf.{first_of}
 use Rattle.judge.specs.Judge.{judge_intervals, judge_block, next_interval, Stretch}

@@ -19,7 +19,7 @@ use Rattle.rules.specs.Intervals.{place_at}
 use Rattle.rules.specs.ReadAll.{read_all}
 use Rattle.scrub.specs.Scrub.{faulty_at, covered_of}
 use Rattle.scrub.proofs.Judging.{fault_cut, block_few, block_within}
-use Rattle.scrub.proofs.Laws.{covered_most, stepped_plain, Going, begins, turn, ended}
+use Rattle.scrub.proofs.Laws.{covered_most, stepped_plain, begins, turn, ended}
 use borrow.Author.Rules.{rules}
 use Rattle.scrub.proofs.step.Goals as goal
 
