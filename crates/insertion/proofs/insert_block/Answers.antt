@@ -9,9 +9,9 @@ use Rattle.insertion.specs.Insertion.{with_field, stored_block}
 use Rattle.insertion.proofs.Laws.{marks_later, block_length, interval_behind}
 use Rattle.insertion.proofs.insert_block.Goals as goal
 
-interval-of : (size i : ℕ) (m : Marks) (s new : List ℕ) → i + size ≤ length s → new ≡ with_field (length (take (i + size - i) (drop i s))) m (take (i + size - i) (drop i s))
+interval_of : (size i : ℕ) (m : Marks) (s new : List ℕ) → i + size ≤ length s → new ≡ with_field (length (take (i + size - i) (drop i s))) m (take (i + size - i) (drop i s))
     → new ≡ with_field size m (drop i s)
-interval-of size i m s new h e =
+interval_of size i m s new h e =
     of_part (with_field size m) size i s new (interval_behind size m) h
     (e ∙ ap (λ (n : ℕ). with_field n m (take (i + size - i) (drop i s))) (part_length i size s h))
 
@@ -36,7 +36,7 @@ pub loop-left-preserved : goal.loop-left-preserved
 loop-left-preserved c =
     let l = c.loop-left in
     turn l.invariant _ _ c.loop-left-test.true c.insert_interval.auto.d
-    (interval-of _ l.i _ _ _ (within l.invariant c.loop-left-test.true) c.insert_interval.ensures)
+    (interval_of _ l.i _ _ _ (within l.invariant c.loop-left-test.true) c.insert_interval.ensures)
     (marks_later 1 _ _ _ _ _ (sym (one-mul _)) c.wrapping_add_u32-reference.ensures.value)
 
 pub returns : goal.returns

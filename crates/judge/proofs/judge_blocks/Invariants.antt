@@ -10,8 +10,8 @@ use Rattle.judge.proofs.judge_blocks.Given as goal
 abbrev pub reach : Rules → ℕ → ℕ → ℕ
 reach r count left = (count - left) * (r.intervals * (r.size + 8))
 
-pub reached-none : (n : ℕ) (p : Place) (k : ℕ) → place_on p (k - k) ((k - k) * n) p.tag ≡ p
-reached-none n p k = let none : k - k ≡ 0 = omega arith in rw (none, zero-mul, add-zero p.address, add-zero p.interval) refl
+pub reached_none : (n : ℕ) (p : Place) (k : ℕ) → place_on p (k - k) ((k - k) * n) p.tag ≡ p
+reached_none n p k = let none : k - k ≡ 0 = omega arith in rw (none, zero-mul, add-zero p.address, add-zero p.interval) refl
 
 pub record Going (r : Rules) (count : ℕ) (p : Place) (s : List ℕ) (left tag : ℕ) : Type 0 where
   pub inside : reach r count left ≤ length s
@@ -28,8 +28,8 @@ begins {r} {count} {p} run =
     record {
       inside = rw start zero-le;
       fewer = le_refl count;
-      run = rw (reached-none r.intervals p count, start) run;
-      same = rw (reached-none r.intervals p count, start) refl;
+      run = rw (reached_none r.intervals p count, start) run;
+      same = rw (reached_none r.intervals p count, start) refl;
     }
 
 abbrev pub invariant-loop-left : goal.invariant-loop-left

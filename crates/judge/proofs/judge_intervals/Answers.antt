@@ -12,12 +12,12 @@ use Rattle.judge.proofs.FirstLaws.{first_next, first_stop, first_end}
 use Rattle.judge.proofs.judge_intervals.Invariants.{Judging}
 use Rattle.judge.proofs.judge_intervals.Goals as goal
 
-reached-none : (p : Place) (k : ℕ) → place_on p 0 (k - k) p.tag ≡ p
-reached-none p k = let none : p.interval + (k - k) ≡ p.interval = omega arith in rw (add-zero p.address, none) refl
+reached_none : (p : Place) (k : ℕ) → place_on p 0 (k - k) p.tag ≡ p
+reached_none p k = let none : p.interval + (k - k) ≡ p.interval = omega arith in rw (add-zero p.address, none) refl
 
 begins : {r : Rules} {k : ℕ} {p : Place} {s : List ℕ} → Stretch r k p s → Judging r k p s k p.tag 0
 unfolding judge_intervals
-begins {k = k} {p = p} run = record { from = zero-add _ ∙ run.whole; fewer = le_refl k; room = run.intervals; same = rw (reached-none p k) refl }
+begins {k = k} {p = p} run = record { from = zero-add _ ∙ run.whole; fewer = le_refl k; room = run.intervals; same = rw (reached_none p k) refl }
 
 module _ {r : Rules} {k : ℕ} {p : Place} {s : List ℕ} {left tag i : ℕ} (g : Judging r k p s left tag i) (h : 0 < left) where
   within : i + r.size + 8 ≤ length s

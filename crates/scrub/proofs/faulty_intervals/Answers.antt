@@ -24,8 +24,8 @@ use Rattle.scrub.proofs.faulty_intervals.Invariants.{any_wrong, Going}
 use borrow.Author.Rules.{rules}
 use Rattle.scrub.proofs.faulty_intervals.Goals as goal
 
-either-wrong : (a b : Answer) → not (is_good (or_else a b)) ≡ (not (is_good a) || not (is_good b))
-either-wrong a b = ap not (good_of_both a b) ∙ by (is_good a)
+either_wrong : (a b : Answer) → not (is_good (or_else a b)) ≡ (not (is_good a) || not (is_good b))
+either_wrong a b = ap not (good_of_both a b) ∙ by (is_good a)
   where
     by : (g : Bool) → not (g && is_good b) ≡ (not g || not (is_good b))
     by true = refl
@@ -37,7 +37,7 @@ module _ (r : Rules) where
 
   turned : (k : ℕ) (p : Place) (s : List ℕ) → any_wrong r (suc k) p s ≡ (wrong_one p s || any_wrong r k (next_interval p) (drop (r.size + 8) s))
   unfolding first_of
-  turned k p s = either-wrong (judge_interval r p s) (first_of (judge_interval r) next_interval (r.size + 8) k (next_interval p) (drop (r.size + 8) s))
+  turned k p s = either_wrong (judge_interval r p s) (first_of (judge_interval r) next_interval (r.size + 8) k (next_interval p) (drop (r.size + 8) s))
 
   ended : (k : ℕ) (p : Place) (s : List ℕ) → k ≤ 0 → any_wrong r k p s ≡ false
   unfolding first_of
