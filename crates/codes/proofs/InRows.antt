@@ -8,7 +8,7 @@ use native.Mathlib.Nat.{lt_of_lt_of_le}
 use native.Mathlib.Omega.{arith}
 use borrow.Author.Tests.{ne_eqb}
 use lib.Dec.{T, lit<}
-use lib.ListN.{length, get_or}
+use lib.ListN.{length}
 use Rattle.words.proofs.Every.{every, each}
 use Rattle.codes.specs.declared.Columns.{Columns}
 use Rattle.codes.specs.Codes.{columns_of, refused_code}

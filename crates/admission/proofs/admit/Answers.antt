@@ -18,7 +18,6 @@ use Rattle.refusal.specs.declared.Lengths.{Lengths}
 use Rattle.admission.specs.declared.Admitted.TheVariants.{Refused}
 use Rattle.admission.specs.Admission.{admit_command, admitted}
 use mathlib.Core.Path.{ap}
-use borrow.Author.Rules.{rules}
 use Rattle.admission.proofs.admit.Goals as goal
 
 -- `a` is what the segment's rules answered, `g` whether that is good
@@ -27,13 +26,13 @@ module _ (d : Description) (l : Lengths) (command : List ℕ) (a : Answer) (g : 
   unfolding admitted
   unfit n = rw (← e, sym t ∙ not-true g n)
 
-  on-refused : {r : Reason} → not g ≡ false → decode command ≡ decoded.Refused r → admitted d l command ≡ Refused (answers.Refused r)
+  on_refused : {r : Reason} → not g ≡ false → decode command ≡ decoded.Refused r → admitted d l command ≡ Refused (answers.Refused r)
   unfolding admitted
-  on-refused n f = rw (← e, sym t ∙ not-false g n, f)
+  on_refused n f = rw (← e, sym t ∙ not-false g n, f)
 
-  on-served : {k : Command} → not g ≡ false → decode command ≡ decoded.Served k → admitted d l command ≡ admit_command d k l
+  on_served : {k : Command} → not g ≡ false → decode command ≡ decoded.Served k → admitted d l command ≡ admit_command d k l
   unfolding admitted
-  on-served n f = rw (← e, sym t ∙ not-false g n, f)
+  on_served n f = rw (← e, sym t ∙ not-false g n, f)
 
 pub returns-then-not-is_good : goal.returns-then-not-is_good
 returns-then-not-is_good c = sym (unfit _ _ _ _ _ c.segment_rules-a.ensures c.is_good.ensures (ap not c.if-not-is_good.true))
@@ -42,7 +41,7 @@ pub admit_command-requires : goal.admit_command-requires
 admit_command-requires c = (fitting _ _ _ c.is_good.ensures (ap not c.if-not-is_good.false) _ c.segment_rules-a.ensures).0
 
 pub returns-in-Refused : goal.returns-in-Refused
-returns-in-Refused c = sym (on-refused _ _ _ _ _ c.segment_rules-a.ensures c.is_good.ensures (ap not c.if-not-is_good.false) (sym c.decode-decoded.ensures ∙ c.in-Refused.is))
+returns-in-Refused c = sym (on_refused _ _ _ _ _ c.segment_rules-a.ensures c.is_good.ensures (ap not c.if-not-is_good.false) (sym c.decode-decoded.ensures ∙ c.in-Refused.is))
 
 pub returns-in-Served : goal.returns-in-Served
-returns-in-Served c = c.admit_command.ensures ∙ sym (on-served _ _ _ _ _ c.segment_rules-a.ensures c.is_good.ensures (ap not c.if-not-is_good.false) (sym c.decode-decoded.ensures ∙ c.in-Served.is))
+returns-in-Served c = c.admit_command.ensures ∙ sym (on_served _ _ _ _ _ c.segment_rules-a.ensures c.is_good.ensures (ap not c.if-not-is_good.false) (sym c.decode-decoded.ensures ∙ c.in-Served.is))

@@ -1,13 +1,9 @@
 -- `blocks::store_blocks`: one block after the other is put in its place.
-use mathlib.Core.Path.{refl, sym, ◌∙◌}
 use mathlib.Core.List.{List}
 use Prim.Native.Nat.{ℕ, ◌+◌, ◌*◌}
-use native.Mathlib.Omega.{arith}
 use lib.ListN.{take}
 use Rattle.words.specs.Parts.{put}
-use Rattle.blocks.proofs.Filling.{Filling, within, room, turn, done, begin}
-use Rattle.words.proofs.Parts.{part_at}
-use Rattle.blocks.proofs.Pieces.{runs_same}
+use Rattle.blocks.proofs.Filling.{Filling}
 use Rattle.blocks.proofs.store_blocks.Given as goal
 
 abbrev pub invariant-loop-left : goal.invariant-loop-left

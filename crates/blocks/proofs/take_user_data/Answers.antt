@@ -6,10 +6,9 @@ use native.Mathlib.Nat.{zero-add, zero-mul, suc-mul, le_refl, le_of_eq}
 use native.Mathlib.Omega.{arith}
 use lib.ListN.{length, take, drop}
 use borrow.Rule.Slice.PartMut.{mid_of, put_mid}
-use Rattle.words.specs.Parts.{put}
 use Rattle.field.specs.Field.{data_of}
 use Rattle.blocks.specs.Blocks.{user_data}
-use Rattle.blocks.proofs.Filling.{Filling, within, room, turn, done, begin}
+use Rattle.blocks.proofs.Filling.{within, room, turn, done, begin}
 use Rattle.words.proofs.Parts.{part_at}
 use Rattle.blocks.proofs.Places.{put_all}
 use Rattle.blocks.proofs.Laws.{user_data_length}

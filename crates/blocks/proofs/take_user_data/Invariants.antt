@@ -1,18 +1,11 @@
 -- `blocks::take_user_data`: the user data of one interval after the other is put in its place.
-use mathlib.Core.Path.{◌≡◌, refl, ◌∙◌}
 use mathlib.Core.List.{List}
-use Prim.Native.Nat.{ℕ, suc, ◌+◌, ◌*◌, ◌-◌, ◌<◌, ◌≤◌}
-use native.Mathlib.Nat.{zero-add, zero-mul, suc-mul, le_refl, le_of_eq}
-use native.Mathlib.Omega.{arith}
-use lib.ListN.{length, take, drop}
-use borrow.Rule.Slice.PartMut.{mid_of, put_mid}
+use Prim.Native.Nat.{ℕ, ◌+◌, ◌*◌, ◌-◌, ◌≤◌}
+use lib.ListN.{length}
 use Rattle.words.specs.Parts.{put}
 use Rattle.field.specs.Field.{data_of}
 use Rattle.blocks.specs.Blocks.{user_data}
-use Rattle.blocks.proofs.Filling.{Filling, within, room, turn, done, begin}
-use Rattle.words.proofs.Parts.{part_at}
-use Rattle.blocks.proofs.Places.{put_all}
-use Rattle.blocks.proofs.Laws.{user_data_length}
+use Rattle.blocks.proofs.Filling.{Filling}
 use Rattle.blocks.proofs.take_user_data.Given as goal
 
 -- so many intervals are left

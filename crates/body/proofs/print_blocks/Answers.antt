@@ -11,7 +11,6 @@ use Rattle.interval.specs.declared.Rules.{Rules}
 use Rattle.interval.specs.declared.Place.{Place}
 use Rattle.judge.specs.Judge.{next_block, Run}
 use Rattle.judge.proofs.BlockLaws.{first_within, first_run, first_room, rest_run, block_fits}
-use Rattle.writing.proofs.Writing.{written_length}
 use Rattle.lines.specs.declared.Line.{Line}
 use Rattle.sheet.specs.declared.Sheet.{Sheet}
 use Rattle.sheet.specs.Sheet.{Printed, Room}

@@ -1,25 +1,15 @@
 -- `body::print_blocks`: the lines that are printed, and those of the blocks that are left, make up all of them.
-use mathlib.Core.Path.{◌≡◌, refl, sym, ap, ◌∙◌}
-use mathlib.Core.List.{List, [], ◌++◌, append_assoc, append-nil}
-use Prim.Native.Nat.{ℕ, ◌+◌, ◌-◌, ◌*◌, ◌^◌, ◌<◌, ◌≤◌, zero-le}
-use native.Mathlib.Nat.{zero-add}
-use native.Mathlib.Omega.{arith}
-use lib.ListN.{length, take, drop}
-use Rattle.words.proofs.Parts.{part_at}
-use Rattle.words.proofs.Runs.{peel_rest}
+use mathlib.Core.Path.{◌≡◌}
+use mathlib.Core.List.{List, ◌++◌}
+use Prim.Native.Nat.{ℕ, ◌+◌, ◌-◌, ◌*◌, ◌≤◌}
+use lib.ListN.{length, drop}
 use Rattle.interval.specs.declared.Rules.{Rules}
 use Rattle.interval.specs.declared.Place.{Place}
-use Rattle.judge.specs.Judge.{next_block, Run}
-use Rattle.judge.proofs.BlockLaws.{first_within, first_run, first_room, rest_run, block_fits}
-use Rattle.writing.proofs.Writing.{written_length}
+use Rattle.judge.specs.Judge.{Run}
 use Rattle.lines.specs.declared.Line.{Line}
 use Rattle.sheet.specs.declared.Sheet.{Sheet}
 use Rattle.sheet.specs.Sheet.{Printed, Room}
-use Rattle.sheet.proofs.SheetLaws.{printed_none, printed_then, printed_as, room_next, room_less}
-use Rattle.paragraph.specs.Paragraph.{lines_in}
-use Rattle.paragraph.proofs.ParagraphLaws.{own_block_lines, block_length}
 use Rattle.body.specs.Body.{block_lines}
-use Rattle.body.proofs.BlockLaws.{block_turn, blocks_none}
 use Rattle.body.proofs.print_blocks.Given as goal
 
 pub record Going (r : Rules) (count : ℕ) (p : Place) (s : List ℕ) (t : Sheet) (out₀ out : List ℕ) (left : ℕ) (here : Place) (u : Sheet) (i : ℕ) : Type 0 where

@@ -1,5 +1,4 @@
 -- `closing::print_refused`: the word, then the number and the end of the line.
-use mathlib.Core.Path.{refl}
 use Rattle.closing.proofs.ClosingLaws.{refused_written}
 use Rattle.closing.proofs.print_refused.Goals as goal
 

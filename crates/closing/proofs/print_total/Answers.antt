@@ -1,8 +1,5 @@
 -- `closing::print_total`: words and numbers, one after another, each with room left for those behind it.
-use mathlib.Core.Path.{refl}
-use Prim.Native.Nat.{◌+◌, ◌≤◌, ◌^◌}
 use native.Mathlib.Omega.{arith}
-use Rattle.writing.proofs.Writing.{written_length}
 use Rattle.text.proofs.Ends.{labelled_end}
 use Rattle.closing.specs.Closing.{intervals_text, faults_text, skipped_text}
 use Rattle.closing.proofs.ClosingLaws.{numbers_written}

@@ -1,23 +1,13 @@
 -- `comparison::compare_blocks`: the blocks that are left give, from the address reached, what all of them give.
-use mathlib.Core.Path.{◌≡◌, refl, sym, ap, ap₂, ◌∙◌}
-use mathlib.Core.Bool.{Bool, true, false, not, cond}
+use mathlib.Core.Path.{◌≡◌}
 use mathlib.Core.List.{List}
-use Prim.Native.Nat.{ℕ, ◌+◌, ◌*◌, ◌-◌, ◌<◌, ◌≤◌}
-use native.Mathlib.Nat.{zero-add, add-zero, mul_assoc, le_refl, mul-le-mul}
-use native.Mathlib.Omega.{arith}
-use borrow.Author.Tests.{not-true, not-false}
-use lib.ListN.{length, take, drop, length-drop}
-use lib.Seq.{drop-drop}
-use Rattle.words.proofs.BigEndian.{part_length}
-use Rattle.words.proofs.Parts.{part_at}
-use Rattle.words.proofs.Runs.{peel_within, peel_rest}
-use Rattle.blocks.proofs.Pieces.{of_part}
+use Prim.Native.Nat.{ℕ, ◌+◌, ◌*◌, ◌-◌, ◌≤◌}
+use lib.ListN.{length, drop}
 use Rattle.answer.specs.declared.Answer.{Answer}
 use Rattle.answer.specs.declared.Answer.TheVariants as answers
 use Rattle.comparison.specs.declared.Cut.{Cut}
-use Rattle.comparison.specs.Comparison.{same, compare_blocks}
-use Rattle.comparison.specs.Inner.{parts_of, Pair}
-use Rattle.comparison.proofs.Parts.{parts_own, block_turn, blocks_end}
+use Rattle.comparison.specs.Comparison.{compare_blocks}
+use Rattle.comparison.specs.Inner.{parts_of}
 use Rattle.comparison.proofs.compare_blocks.Given as goal
 
 -- the bytes of a block, stored and sent

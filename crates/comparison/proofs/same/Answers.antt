@@ -1,10 +1,9 @@
 -- `comparison::same`: the bits that differ in what is left, behind those seen, are all that differ.
-use mathlib.Core.Path.{◌≡◌, refl, ap, ◌∙◌}
-use Prim.Native.Nat.{ℕ, ◌≤◌, ◌-◌, zero-le}
+use mathlib.Core.Path.{refl, ap, ◌∙◌}
+use Prim.Native.Nat.{ℕ, ◌-◌, zero-le}
 use native.Mathlib.Omega.{arith}
 use lib.Dec.{eqb}
-use lib.ListN.{length, drop}
-use Rattle.comparison.proofs.SameLaws.{differing_from, differing_next, differing_end, differing_same}
+use Rattle.comparison.proofs.SameLaws.{differing_next, differing_end, differing_same}
 use Rattle.comparison.proofs.same.Goals as goal
 
 pub loop-i-init : goal.loop-i-init

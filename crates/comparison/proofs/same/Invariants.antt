@@ -1,10 +1,8 @@
 -- `comparison::same`: the bits that differ in what is left, behind those seen, are all that differ.
-use mathlib.Core.Path.{◌≡◌, refl, ap, ◌∙◌}
-use Prim.Native.Nat.{ℕ, ◌≤◌, ◌-◌, zero-le}
-use native.Mathlib.Omega.{arith}
-use lib.Dec.{eqb}
+use mathlib.Core.Path.{◌≡◌}
+use Prim.Native.Nat.{◌≤◌, ◌-◌}
 use lib.ListN.{length, drop}
-use Rattle.comparison.proofs.SameLaws.{differing_from, differing_next, differing_end, differing_same}
+use Rattle.comparison.proofs.SameLaws.{differing_from}
 use Rattle.comparison.proofs.same.Given as goal
 
 abbrev pub invariant-loop-i : goal.invariant-loop-i

@@ -1,20 +1,11 @@
 -- `comparison::same_block`: the pieces that are left are the same exactly when, behind those seen, all are.
-use mathlib.Core.Path.{◌≡◌, refl, sym, ap, ap₂, ◌∙◌}
-use mathlib.Core.Bool.{Bool, true, false, not, ◌&&◌}
+use mathlib.Core.Path.{◌≡◌}
 use mathlib.Core.List.{List}
-use Prim.Native.Nat.{ℕ, ◌+◌, ◌*◌, ◌-◌, ◌<◌, ◌≤◌}
-use native.Mathlib.Nat.{zero-add}
-use native.Mathlib.Omega.{arith}
-use borrow.Author.Tests.{not-true, not-false}
-use lib.ListN.{length, take, drop, length-drop, drop_of_length-le}
-use lib.Seq.{drop-drop}
-use Rattle.words.proofs.BigEndian.{part_length}
-use Rattle.words.proofs.Parts.{part_at}
-use Rattle.words.proofs.Runs.{peel_within, peel_rest, peel_end}
+use Prim.Native.Nat.{ℕ, ◌+◌, ◌*◌, ◌-◌, ◌≤◌}
+use lib.ListN.{length, drop}
 use Rattle.comparison.specs.declared.Cut.{Cut}
 use Rattle.comparison.specs.Comparison.{same}
-use Rattle.comparison.specs.Inner.{parts_of, Pair}
-use Rattle.comparison.proofs.Parts.{piece_turn, pieces_end}
+use Rattle.comparison.specs.Inner.{parts_of}
 use Rattle.comparison.proofs.same_block.Given as goal
 
 pub record Going (k : Cut) (stored sent : List ℕ) (left i j : ℕ) : Type 0 where

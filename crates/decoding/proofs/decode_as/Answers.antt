@@ -1,7 +1,6 @@
 -- `decoding::decode_as`: each refusal denies what the form asks, and what is served has it.
 use mathlib.Core.Path.{◌≡◌, sym, ap, ◌∙◌}
 use mathlib.Core.Bool.{true≢false}
-use mathlib.Core.Logic.{⊎_elim}
 use Rattle.decoding.specs.declared.Layout.{Layout}
 use Rattle.decoding.specs.declared.Decoded.TheVariants.{Served}
 use native.Mathlib.Omega.{arith}

@@ -4,9 +4,8 @@ use mathlib.Core.List.{List}
 use Prim.Native.Nat.{ℕ, ◌+◌, ◌*◌, ◌≤◌}
 use native.Mathlib.Omega.{arith}
 use borrow.Author.Tests.{eq-eqb, ne_eqb}
-use lib.ListN.{length, replicate}
+use lib.ListN.{replicate}
 use Rattle.answer.specs.declared.Answer.TheVariants as answers
-use Rattle.answer.specs.Outcome.{outcome}
 use Rattle.answer.proofs.Outcome.{hands_on, leaves_new}
 use Rattle.segment.specs.declared.Description.{Description}
 use Rattle.segment.specs.Segment.{Segment, intervals_of, size_of, length_of}

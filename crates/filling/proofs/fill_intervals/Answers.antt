@@ -1,13 +1,12 @@
 -- `filling::fill_intervals`: the fresh intervals that stand, and those that are left, make up all of them.
 use mathlib.Core.Path.{◌≡◌, refl, sym, ap, ◌∙◌}
-use mathlib.Core.List.{List, [], ◌++◌}
-use Prim.Native.Nat.{ℕ, ◌+◌, ◌*◌, ◌-◌, ◌<◌, ◌≤◌}
+use mathlib.Core.List.{List, []}
+use Prim.Native.Nat.{ℕ, ◌+◌, ◌-◌, ◌<◌, ◌≤◌}
 use native.Mathlib.Nat.{zero-add}
 use native.Mathlib.Omega.{arith}
 use borrow.Rule.Slice.PartMut.{put_mid}
-use lib.ListN.{length, take, length-append, length-replicate}
+use lib.ListN.{length, length-append, length-replicate}
 use Rattle.words.specs.Parts.{put}
-use Rattle.words.specs.Runs.{runs}
 use Rattle.words.proofs.BigEndian.{part_length}
 use Rattle.words.proofs.Parts.{put_length, put_back}
 use Rattle.words.proofs.Runs.{peel_within, peel_rest, peel_end, fill_next, fill_end}

@@ -1,16 +1,10 @@
 -- `guard::copy_with_guard`: many bytes by the two functions that it calls; of few, what is copied and what is left make up the source, and the bytes that are left, from the remainder so far, give what all of them give.
-use mathlib.Core.Path.{◌≡◌, refl, sym}
+use mathlib.Core.Path.{◌≡◌}
 use mathlib.Core.List.{◌++◌}
-use Prim.Native.Nat.{◌≤◌, ◌<◌, ◌-◌, zero-le}
-use native.Mathlib.Omega.{arith}
-use lib.Dec.{lit<}
-use lib.ListN.{length, take, drop, length-set}
-use Rattle.words.proofs.Parts.{copied_next, copied}
+use Prim.Native.Nat.{◌≤◌, ◌<◌, ◌-◌}
+use lib.ListN.{length, take, drop}
 use Rattle.guard.specs.Guard.{guard}
 use Rattle.guard.specs.Remainder.{guard_from}
-use Rattle.guard.proofs.ByTable.{table_next}
-use Rattle.guard.proofs.Division.{guard_from_zero}
-use Rattle.guard.proofs.Remainder.{guard_end}
 use Rattle.guard.proofs.copy_with_guard.Given as goal
 
 abbrev pub invariant-loop-i : goal.invariant-loop-i

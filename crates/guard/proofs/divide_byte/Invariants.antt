@@ -1,8 +1,7 @@
 -- `guard::divide_byte`: the terms that are still to be brought down give what all of them give.
 use mathlib.Core.Path.{◌≡◌}
-use Prim.Native.Nat.{ℕ, zero, suc, ◌+◌, ◌*◌, ◌/◌, ◌%◌, ◌^◌, ◌≤◌, ◌<◌, ◌-◌}
-use native.Mathlib.Omega.{arith}
-use Rattle.guard.specs.Guard.{divide, take_off, terms}
+use Prim.Native.Nat.{◌≤◌}
+use Rattle.guard.specs.Guard.{divide, terms}
 use Rattle.guard.proofs.divide_byte.Given as goal
 
 abbrev pub invariant-loop-k : goal.invariant-loop-k

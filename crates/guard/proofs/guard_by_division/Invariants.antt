@@ -1,12 +1,9 @@
 -- `guard::guard_by_division`: the bytes that are left, with the sixteen zeros behind them, give what all of them give.
-use mathlib.Core.Path.{◌≡◌, refl, sym, ap, ◌∙◌}
-use mathlib.Core.List.{List, ◌++◌, append_assoc}
-use Prim.Native.Nat.{ℕ, ◌+◌, ◌≤◌, ◌<◌, ◌-◌}
-use native.Mathlib.Omega.{arith}
-use lib.ListN.{length, get_or, drop, replicate, drop_of_length-le}
-use Rattle.words.proofs.Parts.{drop_next}
-use Rattle.guard.specs.Guard.{guard, divide, terms, terms_of}
-use Rattle.guard.proofs.Division.{divide_append}
+use mathlib.Core.Path.{◌≡◌}
+use mathlib.Core.List.{◌++◌}
+use Prim.Native.Nat.{◌≤◌, ◌-◌}
+use lib.ListN.{length, drop, replicate}
+use Rattle.guard.specs.Guard.{guard, divide, terms_of}
 use Rattle.guard.proofs.guard_by_division.Given as goal
 
 abbrev pub invariant-loop-i : goal.invariant-loop-i

@@ -1,11 +1,8 @@
 -- `guard::guard_through`: the bytes that are left, from the remainder so far, give what all of them give; a step through a right table is a step of the guard.
-use mathlib.Core.Path.{◌≡◌, sym}
-use Prim.Native.Nat.{◌≤◌, ◌<◌, ◌-◌, zero-le}
+use mathlib.Core.Path.{sym}
+use Prim.Native.Nat.{zero-le}
 use native.Mathlib.Omega.{arith}
 use lib.Dec.{lit<}
-use lib.ListN.{length, drop}
-use Rattle.guard.specs.Guard.{guard}
-use Rattle.guard.specs.Remainder.{guard_from}
 use Rattle.guard.proofs.ByTable.{table_next}
 use Rattle.guard.proofs.Division.{guard_from_zero}
 use Rattle.guard.proofs.Remainder.{guard_end}

@@ -3,23 +3,22 @@ use mathlib.Core.Path.{◌≡◌, sym, ap, ◌∙◌}
 use mathlib.Core.List.{List}
 use Prim.Native.Nat.{ℕ, ◌+◌, ◌-◌, ◌%◌, ◌≤◌, ◌<◌}
 use native.Mathlib.Omega.{arith}
-use lib.ListN.{length, take, drop, take-append-drop}
+use lib.ListN.{length, take, take-append-drop}
 use Rattle.guard.specs.Guard.{guard}
-use Rattle.guard.specs.Remainder.{guard_from}
 use Rattle.guard.proofs.ByRows.{rows_next}
 use Rattle.guard.proofs.Laws.{guard_lt, guard_append}
 use Rattle.guard.proofs.Remainder.{guard_end}
 use Rattle.guard.proofs.guard_through_rows.Invariants.{Going}
 use Rattle.guard.proofs.guard_through_rows.Goals as goal
 
-two-left : (n i : ℕ) → (n - i) % 2 ≡ 0 → i < n → i + 2 ≤ n
-two-left n i e h = omega arith
+two_left : (n i : ℕ) → (n - i) % 2 ≡ 0 → i < n → i + 2 ≤ n
+two_left n i e h = omega arith
 
-still-even : (n i : ℕ) → (n - i) % 2 ≡ 0 → i + 2 ≤ n → (n - (i + 2)) % 2 ≡ 0
-still-even n i e h = omega arith
+still_even : (n i : ℕ) → (n - i) % 2 ≡ 0 → i + 2 ≤ n → (n - (i + 2)) % 2 ≡ 0
+still_even n i e h = omega arith
 
-even-left : (n : ℕ) → (n - n % 2) % 2 ≡ 0
-even-left n = omega arith
+even_left : (n : ℕ) → (n - n % 2) % 2 ≡ 0
+even_left n = omega arith
 
 most : (n : ℕ) → n % 2 ≤ n
 most n = omega arith
@@ -28,7 +27,7 @@ begins : (s : List ℕ) (r : ℕ) → r ≡ guard (take (length s % 2) s) → Go
 begins s r e =
     record {
       fewer = most (length s);
-      even = even-left (length s);
+      even = even_left (length s);
       small = rw e (guard_lt _);
       same = rw e (sym (guard_append _ _) ∙ ap guard (take-append-drop (length s % 2) s));
     }
@@ -37,16 +36,16 @@ pub loop-i-init : goal.loop-i-init
 loop-i-init c = begins _ _ c.odd_first-r.ensures
 
 pub read2-v-requires : goal.read2-v-requires
-read2-v-requires c = two-left _ _ c.loop-i.invariant.even c.loop-i-test.true
+read2-v-requires c = two_left _ _ c.loop-i.invariant.even c.loop-i-test.true
 
 pub loop-i-preserved : goal.loop-i-preserved
 loop-i-preserved c =
     let l = c.loop-i in
     let s = c.args.«data».now in
     let byte = c.type_inv.data in
-    let here = two-left _ _ l.invariant.even c.loop-i-test.true in
+    let here = two_left _ _ l.invariant.even c.loop-i-test.true in
     let next = rows_next _ c.requires s l.r _ l.i _ _ l.invariant.small here (byte l.i).fits (byte (l.i + 1)).fits c.read2-v.ensures c.rows_step-r.ensures l.invariant.same in
-    record { fewer = omega arith; even = still-even _ _ l.invariant.even here; small = next.0; same = next.1 }
+    record { fewer = omega arith; even = still_even _ _ l.invariant.even here; small = next.0; same = next.1 }
 
 pub returns : goal.returns
 returns c = guard_end _ _ c.loop-i.i _ c.loop-i-test.false c.loop-i.invariant.same

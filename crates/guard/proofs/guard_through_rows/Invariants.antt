@@ -1,14 +1,10 @@
 -- `guard::guard_through_rows`: the bytes that are left, two by two, give from the remainder so far what all of them give.
-use mathlib.Core.Path.{◌≡◌, sym, ap, ◌∙◌}
+use mathlib.Core.Path.{◌≡◌}
 use mathlib.Core.List.{List}
-use Prim.Native.Nat.{ℕ, ◌+◌, ◌-◌, ◌%◌, ◌≤◌, ◌<◌}
-use native.Mathlib.Omega.{arith}
-use lib.ListN.{length, take, drop, take-append-drop}
+use Prim.Native.Nat.{ℕ, ◌-◌, ◌%◌, ◌≤◌, ◌<◌}
+use lib.ListN.{length, drop}
 use Rattle.guard.specs.Guard.{guard}
 use Rattle.guard.specs.Remainder.{guard_from}
-use Rattle.guard.proofs.ByRows.{rows_next}
-use Rattle.guard.proofs.Laws.{guard_lt, guard_append}
-use Rattle.guard.proofs.Remainder.{guard_end}
 use Rattle.guard.proofs.guard_through_rows.Given as goal
 
 -- an even number of bytes is left

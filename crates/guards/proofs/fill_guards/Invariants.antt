@@ -1,17 +1,9 @@
 -- `guards::fill_guards`: the guards that stand, and those of the intervals that are left, make up all of them.
-use mathlib.Core.Path.{◌≡◌, refl, ap, ◌∙◌}
+use mathlib.Core.Path.{◌≡◌}
 use mathlib.Core.List.{List, ◌++◌}
-use Prim.Native.Nat.{ℕ, ◌+◌, ◌*◌, ◌≤◌, ◌<◌, ◌-◌}
-use native.Mathlib.Nat.{zero-add}
-use native.Mathlib.Omega.{arith}
+use Prim.Native.Nat.{ℕ, ◌+◌, ◌*◌, ◌-◌}
 use lib.ListN.{length, take, drop}
-use Rattle.words.specs.BigEndian.{bytes}
-use Rattle.words.specs.Parts.{put}
 use Rattle.words.specs.Runs.{runs}
-use Rattle.words.proofs.BigEndian.{bytes_length}
-use Rattle.words.proofs.Parts.{put_length}
-use Rattle.words.proofs.Runs.{peel_within, peel_rest, peel_end, fill_next, fill_end}
-use Rattle.guard.specs.Guard.{guard}
 use Rattle.guards.specs.Guards.{guard_of_first, guards_of}
 use Rattle.guards.proofs.fill_guards.Given as goal
 

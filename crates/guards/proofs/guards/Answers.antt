@@ -21,9 +21,9 @@ record Fit (s : List ℕ) (size : ℕ) (out : List ℕ) : Type 0 where
   whole : length s % size ≡ 0
   room : length out ≡ length s / size * 2
 
-fit-facts : (s : List ℕ) (size : ℕ) (out : List ℕ) → T (fits s size out) → Fit s size out
+fit_facts : (s : List ℕ) (size : ℕ) (out : List ℕ) → T (fits s size out) → Fit s size out
 unfolding fits
-fit-facts s size out t =
+fit_facts s size out t =
     let rest = and_right (ltb 0 size) _ t in
     record {
       some = ltb→lt 0 size (and_left (ltb 0 size) _ t);
@@ -41,7 +41,7 @@ fit s size out f =
 module _ (s : List ℕ) (size : ℕ) (out : List ℕ) where
   refused : (Fit s size out → ⊥) → outcome (answers.Refused reasons.BufferLengthWrong) out ≡ guards s size out
   unfolding guards guards_rule
-  refused n = refuses _ _ _ (unmet (fits s size out) _ (λ t. n (fit-facts s size out t)))
+  refused n = refuses _ _ _ (unmet (fits s size out) _ (λ t. n (fit_facts s size out t)))
 
   good : (new : List ℕ) → Fit s size out → new ≡ guards_of size (length s / size) s → outcome answers.Good new ≡ guards s size out
   unfolding guards guards_rule

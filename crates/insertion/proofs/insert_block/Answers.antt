@@ -1,18 +1,17 @@
 -- `insertion::insert_block`: one stored interval after the other is put in its place.
-use Rattle.std.proofs.Common.{◌≡◌, ℕ, ◌+◌, ◌-◌, ◌≤◌, List, length, take, drop, sym, refl, ap, ◌∙◌, le_of_eq, le_refl, one-mul, zero-add, arith, rules}
-use Rattle.words.specs.Parts.{put}
+use Rattle.std.proofs.Common.{◌≡◌, ℕ, ◌+◌, ◌-◌, ◌≤◌, List, length, take, drop, sym, refl, ap, ◌∙◌, le_of_eq, le_refl, one-mul, zero-add, arith}
 use Rattle.words.proofs.BigEndian.{part_length}
-use Rattle.blocks.proofs.Filling.{Filling, within, room, turn, done, begin}
+use Rattle.blocks.proofs.Filling.{within, room, turn, done, begin}
 use Rattle.blocks.proofs.Places.{put_all}
 use Rattle.blocks.proofs.Pieces.{of_part}
 use Rattle.insertion.specs.declared.Marks.{Marks}
-use Rattle.insertion.specs.Insertion.{with_field, later, stored_block}
-use Rattle.insertion.proofs.Laws.{marks, marks_later, block_length, interval_behind}
+use Rattle.insertion.specs.Insertion.{with_field, stored_block}
+use Rattle.insertion.proofs.Laws.{marks_later, block_length, interval_behind}
 use Rattle.insertion.proofs.insert_block.Goals as goal
 
-interval-of : (size i : ℕ) (m : Marks) (s new : List ℕ) → i + size ≤ length s → new ≡ with_field (length (take (i + size - i) (drop i s))) m (take (i + size - i) (drop i s))
+interval_of : (size i : ℕ) (m : Marks) (s new : List ℕ) → i + size ≤ length s → new ≡ with_field (length (take (i + size - i) (drop i s))) m (take (i + size - i) (drop i s))
     → new ≡ with_field size m (drop i s)
-interval-of size i m s new h e =
+interval_of size i m s new h e =
     of_part (with_field size m) size i s new (interval_behind size m) h
     (e ∙ ap (λ (n : ℕ). with_field n m (take (i + size - i) (drop i s))) (part_length i size s h))
 
@@ -37,7 +36,7 @@ pub loop-left-preserved : goal.loop-left-preserved
 loop-left-preserved c =
     let l = c.loop-left in
     turn l.invariant _ _ c.loop-left-test.true c.insert_interval.auto.d
-    (interval-of _ l.i _ _ _ (within l.invariant c.loop-left-test.true) c.insert_interval.ensures)
+    (interval_of _ l.i _ _ _ (within l.invariant c.loop-left-test.true) c.insert_interval.ensures)
     (marks_later 1 _ _ _ _ _ (sym (one-mul _)) c.wrapping_add_u32-reference.ensures.value)
 
 pub returns : goal.returns

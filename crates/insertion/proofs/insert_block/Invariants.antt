@@ -1,13 +1,9 @@
 -- `insertion::insert_block`: one stored interval after the other is put in its place.
-use Rattle.std.proofs.Common.{◌≡◌, ℕ, ◌+◌, ◌-◌, ◌≤◌, List, length, take, drop, sym, refl, ap, ◌∙◌, le_of_eq, le_refl, one-mul, zero-add, arith, rules}
+use Rattle.std.proofs.Common.{◌+◌, ◌-◌, length}
 use Rattle.words.specs.Parts.{put}
-use Rattle.words.proofs.BigEndian.{part_length}
-use Rattle.blocks.proofs.Filling.{Filling, within, room, turn, done, begin}
-use Rattle.blocks.proofs.Places.{put_all}
-use Rattle.blocks.proofs.Pieces.{of_part}
-use Rattle.insertion.specs.declared.Marks.{Marks}
+use Rattle.blocks.proofs.Filling.{Filling}
 use Rattle.insertion.specs.Insertion.{with_field, later, stored_block}
-use Rattle.insertion.proofs.Laws.{marks, marks_later, block_length, interval_behind}
+use Rattle.insertion.proofs.Laws.{marks}
 use Rattle.insertion.proofs.insert_block.Given as goal
 
 abbrev pub invariant-loop-left : goal.invariant-loop-left

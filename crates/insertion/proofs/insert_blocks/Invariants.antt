@@ -1,10 +1,9 @@
 -- `insertion::insert_blocks`: one stored block after the other is put in its place.
-use Rattle.std.proofs.Common.{◌+◌, ◌*◌, ◌≤◌, refl, le_of_eq, mul-le-mul, arith, rules}
+use Rattle.std.proofs.Common.{◌+◌, ◌*◌}
 use Rattle.words.specs.Parts.{put}
-use Rattle.blocks.proofs.Filling.{Filling, within, room, turn, done, begin}
-use Rattle.blocks.proofs.Pieces.{of_part}
+use Rattle.blocks.proofs.Filling.{Filling}
 use Rattle.insertion.specs.Insertion.{later, stored_block, stored_blocks}
-use Rattle.insertion.proofs.Laws.{marks, marks_later, blocks_length, block_behind}
+use Rattle.insertion.proofs.Laws.{marks}
 use Rattle.insertion.proofs.insert_blocks.Given as goal
 
 abbrev pub invariant-loop-left : goal.invariant-loop-left

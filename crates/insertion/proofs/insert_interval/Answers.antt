@@ -13,10 +13,10 @@ use borrow.Author.Rules.{rules}
 use Rattle.insertion.proofs.insert_interval.Goals as goal
 
 -- the field put behind the data, up to the end
-interval-made : (m : Marks) (g : ℕ) (s d d₁ d₂ : List ℕ) → length s + 8 ≡ length d → d₁ ≡ s → g ≡ guard s → d₂ ≡ field_bytes g m.application m.reference
+interval_made : (m : Marks) (g : ℕ) (s d d₁ d₂ : List ℕ) → length s + 8 ≡ length d → d₁ ≡ s → g ≡ guard s → d₂ ≡ field_bytes g m.application m.reference
     → put_mid (length s) (length (d₁ ++ drop (length s) d) - length s) (d₁ ++ drop (length s) d) d₂ ≡ with_field (length s) m s
 unfolding with_field put
-interval-made m g s d d₁ d₂ room e₁ eg e₂ =
+interval_made m g s d d₁ d₂ room e₁ eg e₂ =
     let n = length s in
     let old = s ++ drop n d in
     let f = field_bytes (guard s) m.application m.reference in
@@ -33,7 +33,7 @@ copy_with_guard-g-requires c = record { right = search rules; data_len = sym (le
 
 pub returns : goal.returns
 returns c =
-    interval-made _ _ c.args.s.now c.args.d.now c.copy_with_guard-g.new.d _
+    interval_made _ _ c.args.s.now c.args.d.now c.copy_with_guard-g.new.d _
     c.requires.s_len
     c.copy_with_guard-g.ensures.1
     c.copy_with_guard-g.ensures.0

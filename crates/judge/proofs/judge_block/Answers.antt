@@ -1,5 +1,5 @@
 -- `judge::judge_block`: by the escape, the laws of a block.
-use Rattle.std.proofs.Common.{sym, ◌∙◌, one-mul, rules}
+use Rattle.std.proofs.Common.{sym, ◌∙◌, one-mul}
 use Rattle.judge.proofs.BlockLaws.{block_escaped, block_judged}
 use Rattle.judge.proofs.judge_block.Goals as goal
 

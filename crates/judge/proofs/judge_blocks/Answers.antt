@@ -1,24 +1,23 @@
 -- `judge::judge_blocks`: the blocks that are left give, from the place reached, what all of them give; each is judged by its own bytes.
-use Rattle.std.proofs.Common.{◌≡◌, ℕ, suc, ◌+◌, ◌-◌, ◌*◌, ◌%◌, ◌^◌, ◌<◌, ◌≤◌, Bool, true, false, not, List, length, take, drop, sym, refl, ap, ◌∙◌, zero-le, le_refl, add-zero, add_assoc, add-suc, suc-mul, zero-mul, add-one, arith, rules}
+use Rattle.std.proofs.Common.{◌≡◌, ℕ, suc, ◌+◌, ◌-◌, ◌*◌, ◌%◌, ◌^◌, ◌<◌, ◌≤◌, Bool, true, false, not, List, length, take, drop, sym, refl, ap, ◌∙◌, add_assoc, add-suc, suc-mul, add-one, arith}
 use borrow.Author.Tests.{not-true, not-false}
 use Rattle.words.proofs.Parts.{part_at}
 use Rattle.answer.specs.Answer.{is_good}
 use Rattle.answer.specs.declared.Answer.{Answer}
 use Rattle.interval.specs.declared.Rules.{Rules}
 use Rattle.interval.specs.declared.Place.{Place}
-use Rattle.judge.specs.FirstOf.{first_of}
 use Rattle.judge.specs.Judge.{judge_block, judge_blocks, place_on, next_block, Run}
 use Rattle.judge.proofs.FirstLaws.{first_next, first_stop, first_end}
 use Rattle.judge.proofs.BlockLaws.{own_block, first_within, first_run, first_room, rest_run, block_fits}
-use Rattle.judge.proofs.judge_blocks.Invariants.{reach, reached-none, Going, begins}
+use Rattle.judge.proofs.judge_blocks.Invariants.{reach, Going, begins}
 use Rattle.judge.proofs.judge_blocks.Goals as goal
 
-reach-next : (r : Rules) (count left : ℕ) → 0 < left → left ≤ count → reach r count (left - 1) ≡ reach r count left + r.intervals * (r.size + 8)
-reach-next r count left h l = let on : count - (left - 1) ≡ suc (count - left) = omega arith in rw (on, suc-mul) refl
+reach_next : (r : Rules) (count left : ℕ) → 0 < left → left ≤ count → reach r count (left - 1) ≡ reach r count left + r.intervals * (r.size + 8)
+reach_next r count left h l = let on : count - (left - 1) ≡ suc (count - left) = omega arith in rw (on, suc-mul) refl
 
-reached-next : (n : ℕ) (p : Place) (k left tag : ℕ) → 0 < left → left ≤ k
+reached_next : (n : ℕ) (p : Place) (k left tag : ℕ) → 0 < left → left ≤ k
     → place_on p (k - (left - 1)) ((k - (left - 1)) * n) ((tag + n) % 2 ^ 32) ≡ next_block n (place_on p (k - left) ((k - left) * n) tag)
-reached-next n p k left tag h l =
+reached_next n p k left tag h l =
     let on : k - (left - 1) ≡ suc (k - left) = omega arith in
     rw (on, suc-mul, ← add_assoc p.interval, add-suc, add-one) refl
 
@@ -44,8 +43,8 @@ module _ {r : Rules} {count : ℕ} {p : Place} {s : List ℕ} {left tag : ℕ} (
     turn : {there : Place} → not b ≡ false → there ≡ next_block r.intervals here → Going r count p s (left - 1) there.tag
     turn {there} o e =
         let next : there.tag ≡ (tag + r.intervals) % 2 ^ 32 = ap (λ (q : Place). q.tag) (e ∙ ap (next_block r.intervals) w) in
-        let on = reached-next r.intervals p count left tag h g.fewer in
-        let behind = reach-next r count left h g.fewer in
+        let on = reached_next r.intervals p count left tag h g.fewer in
+        let behind = reach_next r count left h g.fewer in
         rw next
         (record {
           inside = rw behind within;

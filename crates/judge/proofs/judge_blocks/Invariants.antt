@@ -1,23 +1,17 @@
 -- `judge::judge_blocks`: the blocks that are left give, from the place reached, what all of them give; each is judged by its own bytes.
-use Rattle.std.proofs.Common.{◌≡◌, ℕ, suc, ◌+◌, ◌-◌, ◌*◌, ◌%◌, ◌^◌, ◌<◌, ◌≤◌, Bool, true, false, not, List, length, take, drop, sym, refl, ap, ◌∙◌, zero-le, le_refl, add-zero, add_assoc, add-suc, suc-mul, zero-mul, add-one, arith, rules}
-use borrow.Author.Tests.{not-true, not-false}
-use Rattle.words.proofs.Parts.{part_at}
-use Rattle.answer.specs.Answer.{is_good}
-use Rattle.answer.specs.declared.Answer.{Answer}
+use Rattle.std.proofs.Common.{◌≡◌, ℕ, ◌+◌, ◌-◌, ◌*◌, ◌≤◌, List, length, drop, refl, zero-le, le_refl, add-zero, zero-mul, arith}
 use Rattle.interval.specs.declared.Rules.{Rules}
 use Rattle.interval.specs.declared.Place.{Place}
 use Rattle.judge.specs.FirstOf.{first_of}
 use Rattle.judge.specs.Judge.{judge_block, judge_blocks, place_on, next_block, Run}
-use Rattle.judge.proofs.FirstLaws.{first_next, first_stop, first_end}
-use Rattle.judge.proofs.BlockLaws.{own_block, first_within, first_run, first_room, rest_run, block_fits}
 use Rattle.judge.proofs.judge_blocks.Given as goal
 
 -- where the first of the blocks that are left begins
 abbrev pub reach : Rules → ℕ → ℕ → ℕ
 reach r count left = (count - left) * (r.intervals * (r.size + 8))
 
-pub reached-none : (n : ℕ) (p : Place) (k : ℕ) → place_on p (k - k) ((k - k) * n) p.tag ≡ p
-reached-none n p k = let none : k - k ≡ 0 = omega arith in rw (none, zero-mul, add-zero p.address, add-zero p.interval) refl
+pub reached_none : (n : ℕ) (p : Place) (k : ℕ) → place_on p (k - k) ((k - k) * n) p.tag ≡ p
+reached_none n p k = let none : k - k ≡ 0 = omega arith in rw (none, zero-mul, add-zero p.address, add-zero p.interval) refl
 
 pub record Going (r : Rules) (count : ℕ) (p : Place) (s : List ℕ) (left tag : ℕ) : Type 0 where
   pub inside : reach r count left ≤ length s
@@ -34,8 +28,8 @@ begins {r} {count} {p} run =
     record {
       inside = rw start zero-le;
       fewer = le_refl count;
-      run = rw (reached-none r.intervals p count, start) run;
-      same = rw (reached-none r.intervals p count, start) refl;
+      run = rw (reached_none r.intervals p count, start) run;
+      same = rw (reached_none r.intervals p count, start) refl;
     }
 
 abbrev pub invariant-loop-left : goal.invariant-loop-left

@@ -1,5 +1,5 @@
 -- `judge::judge_intervals`: the intervals that are left give, from the place reached, what all of them give.
-use Rattle.std.proofs.Common.{◌≡◌, ℕ, ◌+◌, ◌-◌, ◌*◌, ◌%◌, ◌^◌, ◌<◌, ◌≤◌, Bool, true, false, not, List, length, take, drop, sym, refl, ap, ◌∙◌, ap₂, le_refl, add-zero, add_assoc, zero-add, arith, rules}
+use Rattle.std.proofs.Common.{◌≡◌, ℕ, ◌+◌, ◌-◌, ◌%◌, ◌^◌, ◌<◌, ◌≤◌, Bool, true, false, not, List, length, take, drop, sym, refl, ap, ◌∙◌, ap₂, le_refl, add-zero, add_assoc, zero-add, arith}
 use borrow.Author.Tests.{not-true, not-false}
 use Rattle.answer.specs.Answer.{is_good}
 use Rattle.answer.specs.declared.Answer.{Answer}
@@ -7,18 +7,17 @@ use Rattle.interval.specs.declared.Rules.{Rules}
 use Rattle.interval.specs.declared.Place.{Place}
 use Rattle.interval.specs.Interval.{judge_pieces, judge_interval}
 use Rattle.field.proofs.Laws.{interval_within, interval_rest, data_part, field_part}
-use Rattle.judge.specs.FirstOf.{first_of}
 use Rattle.judge.specs.Judge.{judge_intervals, place_on, next_interval, Stretch}
 use Rattle.judge.proofs.FirstLaws.{first_next, first_stop, first_end}
 use Rattle.judge.proofs.judge_intervals.Invariants.{Judging}
 use Rattle.judge.proofs.judge_intervals.Goals as goal
 
-reached-none : (p : Place) (k : ℕ) → place_on p 0 (k - k) p.tag ≡ p
-reached-none p k = let none : p.interval + (k - k) ≡ p.interval = omega arith in rw (add-zero p.address, none) refl
+reached_none : (p : Place) (k : ℕ) → place_on p 0 (k - k) p.tag ≡ p
+reached_none p k = let none : p.interval + (k - k) ≡ p.interval = omega arith in rw (add-zero p.address, none) refl
 
 begins : {r : Rules} {k : ℕ} {p : Place} {s : List ℕ} → Stretch r k p s → Judging r k p s k p.tag 0
 unfolding judge_intervals
-begins {k = k} {p = p} run = record { from = zero-add _ ∙ run.whole; fewer = le_refl k; room = run.intervals; same = rw (reached-none p k) refl }
+begins {k = k} {p = p} run = record { from = zero-add _ ∙ run.whole; fewer = le_refl k; room = run.intervals; same = rw (reached_none p k) refl }
 
 module _ {r : Rules} {k : ℕ} {p : Place} {s : List ℕ} {left tag i : ℕ} (g : Judging r k p s left tag i) (h : 0 < left) where
   within : i + r.size + 8 ≤ length s

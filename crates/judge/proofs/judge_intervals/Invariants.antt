@@ -1,15 +1,10 @@
 -- `judge::judge_intervals`: the intervals that are left give, from the place reached, what all of them give.
-use Rattle.std.proofs.Common.{◌≡◌, ℕ, ◌+◌, ◌-◌, ◌*◌, ◌%◌, ◌^◌, ◌<◌, ◌≤◌, Bool, true, false, not, List, length, take, drop, sym, refl, ap, ◌∙◌, ap₂, le_refl, add-zero, add_assoc, zero-add, arith, rules}
-use borrow.Author.Tests.{not-true, not-false}
-use Rattle.answer.specs.Answer.{is_good}
-use Rattle.answer.specs.declared.Answer.{Answer}
+use Rattle.std.proofs.Common.{◌≡◌, ℕ, ◌+◌, ◌-◌, ◌*◌, ◌^◌, ◌≤◌, List, length, drop}
 use Rattle.interval.specs.declared.Rules.{Rules}
 use Rattle.interval.specs.declared.Place.{Place}
-use Rattle.interval.specs.Interval.{judge_pieces, judge_interval}
-use Rattle.field.proofs.Laws.{interval_within, interval_rest, data_part, field_part}
+use Rattle.interval.specs.Interval.{judge_interval}
 use Rattle.judge.specs.FirstOf.{first_of}
-use Rattle.judge.specs.Judge.{judge_intervals, place_on, next_interval, Stretch}
-use Rattle.judge.proofs.FirstLaws.{first_next, first_stop, first_end}
+use Rattle.judge.specs.Judge.{judge_intervals, place_on, next_interval}
 use Rattle.judge.proofs.judge_intervals.Given as goal
 
 pub record Judging (r : Rules) (k : ℕ) (p : Place) (s : List ℕ) (left tag i : ℕ) : Type 0 where

@@ -1,5 +1,5 @@
 -- `judge::next_block`: the place one block and its intervals on.
-use Rattle.std.proofs.Common.{◌≡◌, ℕ, ◌+◌, ◌%◌, ◌^◌, refl, ◌∙◌, rules}
+use Rattle.std.proofs.Common.{◌≡◌, ℕ, ◌+◌, ◌%◌, ◌^◌, refl, ◌∙◌}
 use Rattle.interval.specs.declared.Place.{Place}
 use Rattle.judge.specs.Judge.{place_on, next_block}
 use Rattle.judge.proofs.next_block.Goals as goal

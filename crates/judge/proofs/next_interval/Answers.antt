@@ -1,5 +1,5 @@
 -- `judge::next_interval`: the place one interval on, at the same address.
-use Rattle.std.proofs.Common.{◌≡◌, ℕ, ◌+◌, ◌%◌, ◌^◌, refl, ◌∙◌, add-zero, rules}
+use Rattle.std.proofs.Common.{◌≡◌, ℕ, ◌+◌, ◌%◌, ◌^◌, refl, ◌∙◌, add-zero}
 use Rattle.interval.specs.declared.Place.{Place}
 use Rattle.judge.specs.Judge.{place_on, next_interval}
 use Rattle.judge.proofs.next_interval.Goals as goal

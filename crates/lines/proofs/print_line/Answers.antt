@@ -1,7 +1,5 @@
 -- `lines::print_line`: one text after another, each with room left for those behind it.
-use Prim.Native.Nat.{◌+◌, ◌≤◌, ◌^◌}
 use native.Mathlib.Omega.{arith}
-use Rattle.writing.proofs.Writing.{written_length}
 use Rattle.text.proofs.Ends.{decimal_then_end, hexadecimal_then_end}
 use Rattle.lines.proofs.LineLaws.{line_written, state_end}
 use Rattle.lines.proofs.print_line.Goals as goal

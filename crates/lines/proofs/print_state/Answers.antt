@@ -1,5 +1,5 @@
 -- `lines::print_state`: the word of each state.
-use mathlib.Core.Path.{refl, sym, ap}
+use mathlib.Core.Path.{sym, ap}
 use Rattle.writing.proofs.Writing.{written_as}
 use Rattle.lines.specs.Lines.{state_text}
 use Rattle.lines.proofs.print_state.Goals as goal

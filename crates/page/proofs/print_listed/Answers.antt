@@ -1,8 +1,6 @@
 -- `page::print_listed`: header, lines and last line, one after another.
-use mathlib.Core.Path.{refl}
 use native.Mathlib.Omega.{arith}
 use lib.Dec.{lit≤}
-use Rattle.writing.proofs.Writing.{written_length}
 use Rattle.sheet.proofs.SheetLaws.{first_room}
 use Rattle.contents.proofs.SegmentLaws.{lines_end}
 use Rattle.page.proofs.PageLaws.{listed_written}

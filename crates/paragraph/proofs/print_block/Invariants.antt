@@ -1,24 +1,15 @@
 -- `paragraph::print_block`: the lines that are printed, and those of the intervals that are left, make up the block's.
-use mathlib.Core.Path.{◌≡◌, sym, ap, ◌∙◌}
+use mathlib.Core.Path.{◌≡◌}
 use mathlib.Core.Bool.{Bool}
-use mathlib.Core.List.{List, [], ◌∷◌, ◌++◌, append_assoc, append-nil}
-use Prim.Native.Nat.{ℕ, ◌+◌, ◌-◌, ◌*◌, ◌^◌, ◌<◌, ◌≤◌}
-use native.Mathlib.Nat.{zero-add, one-mul}
-use native.Mathlib.Omega.{arith}
-use lib.ListN.{length, take, drop, length-take, length-drop}
-use Rattle.words.proofs.Runs.{peel_within, peel_rest}
+use mathlib.Core.List.{List, ◌++◌}
+use Prim.Native.Nat.{ℕ, ◌+◌, ◌-◌, ◌*◌, ◌^◌, ◌≤◌}
+use lib.ListN.{length, drop}
 use Rattle.interval.specs.declared.Rules.{Rules}
 use Rattle.interval.specs.declared.Place.{Place}
-use Rattle.interval.specs.Interval.{any_escapes}
-use Rattle.judge.specs.Judge.{next_interval, Run}
-use Rattle.writing.proofs.Writing.{written_length}
 use Rattle.lines.specs.declared.Line.{Line}
 use Rattle.sheet.specs.declared.Sheet.{Sheet}
-use Rattle.lines.specs.Lines.{line_of}
 use Rattle.sheet.specs.Sheet.{Printed, Room}
-use Rattle.sheet.proofs.SheetLaws.{printed_none, printed_then, printed_as, room_next, room_less}
 use Rattle.paragraph.specs.Paragraph.{interval_lines, lines_in}
-use Rattle.paragraph.proofs.ParagraphLaws.{interval_turn, own_line, intervals_none}
 use Rattle.paragraph.proofs.print_block.Given as goal
 
 pub record Going (r : Rules) (k : Bool) (p : Place) (s : List ℕ) (t : Sheet) (out₀ out : List ℕ) (left : ℕ) (here : Place) (number : ℕ) (u : Sheet) (i : ℕ) : Type 0 where

@@ -6,7 +6,6 @@ use native.Mathlib.Omega.{arith}
 use lib.ListN.{length, take, drop, length-append}
 use lib.Seq.{take-add, take_at, take_all, length-take-le}
 use borrow.Rule.Slice.PartMut.{put_mid, mid_of, mid_len, same_len_mid}
-use Rattle.parity.specs.Stretch.{joined}
 use Rattle.parity.proofs.Stretches.{joined_length}
 use Rattle.parity.proofs.join.Invariants.{Going}
 use borrow.Author.Rules.{rules}

@@ -1,13 +1,9 @@
 -- `parity::join`: what is made is as much of the whole, a stretch more with each turn.
-use mathlib.Core.Path.{◌≡◌, refl, sym, ap, ap₂, ◌∙◌}
-use mathlib.Core.List.{List, ◌++◌, append_assoc}
-use Prim.Native.Nat.{ℕ, ◌+◌, ◌≤◌, ◌<◌, ◌-◌}
-use native.Mathlib.Omega.{arith}
-use lib.ListN.{length, take, drop, length-append}
-use lib.Seq.{take-add, take_at, take_all, length-take-le}
-use borrow.Rule.Slice.PartMut.{put_mid, mid_of, mid_len, same_len_mid}
+use mathlib.Core.Path.{◌≡◌}
+use mathlib.Core.List.{List}
+use Prim.Native.Nat.{ℕ, ◌≤◌, ◌-◌}
+use lib.ListN.{length, take}
 use Rattle.parity.specs.Stretch.{joined}
-use Rattle.parity.proofs.Stretches.{joined_length}
 use Rattle.parity.proofs.join.Given as goal
 
 pub record Going (whole out₀ out : List ℕ) (at : ℕ) : Type 0 where

@@ -1,14 +1,8 @@
 -- `parity::xor_stretch`: what stands, with the parts that are left, gives what all parts give; two parts are two turns of one.
-use mathlib.Core.Path.{◌≡◌, refl, sym, ap, ◌∙◌}
+use mathlib.Core.Path.{◌≡◌}
 use mathlib.Core.List.{List}
-use Prim.Native.Nat.{ℕ, zero, suc, ◌+◌, ◌*◌, ◌≤◌, ◌<◌, ◌-◌}
-use native.Mathlib.Nat.{zero-add}
-use native.Mathlib.Omega.{arith}
-use lib.ListN.{length, take, drop, length-take, length-drop}
-use lib.Seq.{drop-drop}
-use Rattle.words.specs.Xor.{xors}
-use Rattle.words.proofs.Xor.{xors_length}
-use Rattle.words.proofs.Runs.{peel_within, peel_rest}
+use Prim.Native.Nat.{ℕ, ◌+◌, ◌*◌, ◌≤◌}
+use lib.ListN.{length, drop}
 use Rattle.parity.specs.Stretch.{xor_stretch}
 use Rattle.parity.proofs.xor_stretch.Given as goal
 

@@ -1,13 +1,9 @@
 -- `parity::xor_two`: what is done, and the exclusive or of what is left, make up the whole.
-use mathlib.Core.Path.{◌≡◌, refl}
-use mathlib.Core.List.{List, ◌++◌}
-use Prim.Native.Nat.{ℕ, ◌+◌, ◌≤◌, ◌<◌, ◌-◌}
-use native.Mathlib.Omega.{arith}
-use lib.Bits.{bit_xor}
-use lib.ListN.{length, get_or, take, drop, set, length-set, drop_of_length-le}
-use lib.Seq.{drop-set-lt}
+use mathlib.Core.Path.{◌≡◌}
+use mathlib.Core.List.{◌++◌}
+use Prim.Native.Nat.{◌≤◌, ◌-◌}
+use lib.ListN.{length, take, drop}
 use Rattle.words.specs.Xor.{xors}
-use Rattle.words.proofs.Parts.{store_next, store_end, drop_next}
 use Rattle.parity.proofs.xor_two.Given as goal
 
 abbrev pub invariant-loop-i : goal.invariant-loop-i

@@ -1,6 +1,5 @@
 -- `records::described_by`: each field at its place.
 use mathlib.Core.Path.{◌∙◌}
-use native.Mathlib.Omega.{arith}
 use Rattle.records.proofs.RecordLaws.{described_made}
 use Rattle.records.proofs.described_by.Goals as goal
 

@@ -1,14 +1,10 @@
 -- `refusal::refusal`: rule after rule; the first that refuses answers.
-use mathlib.Core.Path.{◌≡◌, sym, ◌∙◌}
-use Rattle.answer.specs.Answer.{or_else}
-use Rattle.answer.specs.declared.Answer.{Answer}
+use mathlib.Core.Path.{sym, ◌∙◌}
 use Rattle.answer.proofs.Ladder.{stops, goes_on}
-use Rattle.segment.specs.Places.{range_rule}
-use Rattle.refusal.specs.Refusal.{code_rule, check_rule, size_rule, buffer_rule, refusal}
+use Rattle.refusal.specs.Refusal.{buffer_rule, refusal}
 use Rattle.refusal.proofs.Rules.{short}
 use mathlib.Core.Path.{ap}
 use mathlib.Core.Bool.{not}
-use borrow.Author.Rules.{rules}
 use Rattle.refusal.proofs.refusal.Goals as goal
 
 pub returns-then-not-is_good : goal.returns-then-not-is_good

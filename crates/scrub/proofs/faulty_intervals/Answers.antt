@@ -2,7 +2,7 @@
 use mathlib.Core.Path.{◌≡◌, refl, sym, ap, ap₂, ◌∙◌}
 use mathlib.Core.Bool.{Bool, true, false, not, ◌&&◌, ◌||◌}
 use mathlib.Core.List.{List}
-use Prim.Native.Nat.{ℕ, zero, suc, ◌+◌, ◌*◌, ◌-◌, ◌^◌, ◌<◌, ◌≤◌}
+use Prim.Native.Nat.{ℕ, zero, suc, ◌+◌, ◌-◌, ◌<◌, ◌≤◌}
 use native.Mathlib.Nat.{zero-add, add_assoc}
 use native.Mathlib.Omega.{arith}
 use lib.ListN.{length, take, drop}
@@ -15,7 +15,7 @@ use Rattle.field.specs.Field.{field_of}
 use Rattle.field.proofs.Laws.{interval_within, interval_rest, data_part, field_part}
 use Rattle.interval.specs.declared.Rules.{Rules}
 use Rattle.interval.specs.declared.Place.{Place}
-use Rattle.interval.specs.Interval.{escapes, any_escapes, judge_pieces, judge_interval}
+use Rattle.interval.specs.Interval.{escapes, judge_pieces, judge_interval}
 use Rattle.interval.proofs.IntervalLaws.{any_next, any_stop, any_end}
 use Rattle.judge.specs.FirstOf.{first_of}
 use Rattle.judge.specs.Judge.{judge_intervals, judge_block, next_interval, Stretch}
@@ -24,8 +24,8 @@ use Rattle.scrub.proofs.faulty_intervals.Invariants.{any_wrong, Going}
 use borrow.Author.Rules.{rules}
 use Rattle.scrub.proofs.faulty_intervals.Goals as goal
 
-either-wrong : (a b : Answer) → not (is_good (or_else a b)) ≡ (not (is_good a) || not (is_good b))
-either-wrong a b = ap not (good_of_both a b) ∙ by (is_good a)
+either_wrong : (a b : Answer) → not (is_good (or_else a b)) ≡ (not (is_good a) || not (is_good b))
+either_wrong a b = ap not (good_of_both a b) ∙ by (is_good a)
   where
     by : (g : Bool) → not (g && is_good b) ≡ (not g || not (is_good b))
     by true = refl
@@ -37,7 +37,7 @@ module _ (r : Rules) where
 
   turned : (k : ℕ) (p : Place) (s : List ℕ) → any_wrong r (suc k) p s ≡ (wrong_one p s || any_wrong r k (next_interval p) (drop (r.size + 8) s))
   unfolding first_of
-  turned k p s = either-wrong (judge_interval r p s) (first_of (judge_interval r) next_interval (r.size + 8) k (next_interval p) (drop (r.size + 8) s))
+  turned k p s = either_wrong (judge_interval r p s) (first_of (judge_interval r) next_interval (r.size + 8) k (next_interval p) (drop (r.size + 8) s))
 
   ended : (k : ℕ) (p : Place) (s : List ℕ) → k ≤ 0 → any_wrong r k p s ≡ false
   unfolding first_of

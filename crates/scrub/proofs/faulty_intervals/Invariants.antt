@@ -1,25 +1,15 @@
 -- `scrub::faulty_intervals`: no interval so far has the escape; whether one was wrong, with those that are left, gives what all of them give.
-use mathlib.Core.Path.{◌≡◌, refl, sym, ap, ap₂, ◌∙◌}
-use mathlib.Core.Bool.{Bool, true, false, not, ◌&&◌, ◌||◌}
+use mathlib.Core.Path.{◌≡◌}
+use mathlib.Core.Bool.{Bool, not, ◌||◌}
 use mathlib.Core.List.{List}
-use Prim.Native.Nat.{ℕ, zero, suc, ◌+◌, ◌*◌, ◌-◌, ◌^◌, ◌<◌, ◌≤◌}
-use native.Mathlib.Nat.{zero-add, add_assoc}
-use native.Mathlib.Omega.{arith}
-use lib.ListN.{length, take, drop}
-use Rattle.words.proofs.Choice.{or_assoc, or_false}
-use Rattle.words.proofs.Turns.{turn_of}
-use Rattle.answer.specs.Answer.{is_good, or_else}
-use Rattle.answer.specs.declared.Answer.{Answer}
-use Rattle.answer.proofs.Ladder.{good_of_both}
-use Rattle.field.specs.Field.{field_of}
-use Rattle.field.proofs.Laws.{interval_within, interval_rest, data_part, field_part}
+use Prim.Native.Nat.{ℕ, ◌+◌, ◌*◌, ◌-◌, ◌^◌, ◌≤◌}
+use lib.ListN.{length, drop}
+use Rattle.answer.specs.Answer.{is_good}
 use Rattle.interval.specs.declared.Rules.{Rules}
 use Rattle.interval.specs.declared.Place.{Place}
-use Rattle.interval.specs.Interval.{escapes, any_escapes, judge_pieces, judge_interval}
-use Rattle.interval.proofs.IntervalLaws.{any_next, any_stop, any_end}
+use Rattle.interval.specs.Interval.{any_escapes, judge_interval}
 use Rattle.judge.specs.FirstOf.{first_of}
-use Rattle.judge.specs.Judge.{judge_intervals, judge_block, next_interval, Stretch}
-use Rattle.judge.proofs.BlockLaws.{block_escaped, block_judged}
+use Rattle.judge.specs.Judge.{judge_intervals, next_interval}
 use Rattle.scrub.proofs.faulty_intervals.Given as goal
 
 module _ (r : Rules) where

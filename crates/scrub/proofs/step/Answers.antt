@@ -19,7 +19,7 @@ use Rattle.rules.specs.Intervals.{place_at}
 use Rattle.rules.specs.ReadAll.{read_all}
 use Rattle.scrub.specs.Scrub.{faulty_at, covered_of}
 use Rattle.scrub.proofs.Judging.{fault_cut, block_few, block_within}
-use Rattle.scrub.proofs.Laws.{covered_most, stepped_plain, Going, begins, turn, ended}
+use Rattle.scrub.proofs.Laws.{covered_most, stepped_plain, begins, turn, ended}
 use borrow.Author.Rules.{rules}
 use Rattle.scrub.proofs.step.Goals as goal
 
@@ -31,9 +31,9 @@ record Here (d : Description) (s : List ℕ) (size at : ℕ) : Type 0 where
   most : d.count ≤ 65536
   end : d.first + d.count ≤ 2 ^ 63
 
-here-is : (d : Description) (s : List ℕ) (place blocks judged : ℕ) {count size : ℕ} → Segment d → length_of d ≡ length s → place ≤ d.count
+here_is : (d : Description) (s : List ℕ) (place blocks judged : ℕ) {count size : ℕ} → Segment d → length_of d ≡ length s → place ≤ d.count
     → count ≡ covered_of d place blocks → size ≡ stored_of d → judged < count → Here d s size (place + judged)
-here-is d s place blocks judged g long p e z h =
+here_is d s place blocks judged g long p e z h =
     let inside : place + judged < d.count = omega (arith, covered_most d place blocks p) in
     rw z
     (record {
@@ -60,16 +60,16 @@ pub returns-then-d-eq0 : goal.returns-then-d-eq0
 returns-then-d-eq0 c = stepped_plain _ _ c.if-d-eq0.true c.covered-count.ensures
 
 pub overflow_add-at : goal.overflow_add-at
-overflow_add-at c = omega (arith, (here-is _ _ _ c.args.blocks _ c.requires.segment.0 c.requires.segment.1 c.requires.segment.2 c.covered-count.ensures c.stored-size.ensures c.loop-judged-test.true).inside, (here-is _ _ _ c.args.blocks _ c.requires.segment.0 c.requires.segment.1 c.requires.segment.2 c.covered-count.ensures c.stored-size.ensures c.loop-judged-test.true).most)
+overflow_add-at c = omega (arith, (here_is _ _ _ c.args.blocks _ c.requires.segment.0 c.requires.segment.1 c.requires.segment.2 c.covered-count.ensures c.stored-size.ensures c.loop-judged-test.true).inside, (here_is _ _ _ c.args.blocks _ c.requires.segment.0 c.requires.segment.1 c.requires.segment.2 c.covered-count.ensures c.stored-size.ensures c.loop-judged-test.true).most)
 
 pub overflow_mul-i : goal.overflow_mul-i
-overflow_mul-i c = omega (arith, (here-is _ _ _ c.args.blocks _ c.requires.segment.0 c.requires.segment.1 c.requires.segment.2 c.covered-count.ensures c.stored-size.ensures c.loop-judged-test.true).few)
+overflow_mul-i c = omega (arith, (here_is _ _ _ c.args.blocks _ c.requires.segment.0 c.requires.segment.1 c.requires.segment.2 c.covered-count.ensures c.stored-size.ensures c.loop-judged-test.true).few)
 
 pub overflow_add-end : goal.overflow_add-end
-overflow_add-end c = omega (arith, (here-is _ _ _ c.args.blocks _ c.requires.segment.0 c.requires.segment.1 c.requires.segment.2 c.covered-count.ensures c.stored-size.ensures c.loop-judged-test.true).few)
+overflow_add-end c = omega (arith, (here_is _ _ _ c.args.blocks _ c.requires.segment.0 c.requires.segment.1 c.requires.segment.2 c.covered-count.ensures c.stored-size.ensures c.loop-judged-test.true).few)
 
 pub slice_bounds-faulty_block-end : goal.slice_bounds-faulty_block-end
-slice_bounds-faulty_block-end c = (here-is _ _ _ c.args.blocks _ c.requires.segment.0 c.requires.segment.1 c.requires.segment.2 c.covered-count.ensures c.stored-size.ensures c.loop-judged-test.true).within
+slice_bounds-faulty_block-end c = (here_is _ _ _ c.args.blocks _ c.requires.segment.0 c.requires.segment.1 c.requires.segment.2 c.covered-count.ensures c.stored-size.ensures c.loop-judged-test.true).within
 
 pub faulty_block-faulty-requires : goal.faulty_block-faulty-requires
 faulty_block-faulty-requires c =
@@ -78,18 +78,18 @@ faulty_block-faulty-requires c =
       looked = record {
         segment = c.requires.segment.0;
         not_zero = c.if-d-eq0.false;
-        inside = (here-is _ _ _ c.args.blocks _ c.requires.segment.0 c.requires.segment.1 c.requires.segment.2 c.covered-count.ensures c.stored-size.ensures c.loop-judged-test.true).inside;
-        whole = cut _ _ c.stored-size.ensures (here-is _ _ _ c.args.blocks _ c.requires.segment.0 c.requires.segment.1 c.requires.segment.2 c.covered-count.ensures c.stored-size.ensures c.loop-judged-test.true).within;
+        inside = (here_is _ _ _ c.args.blocks _ c.requires.segment.0 c.requires.segment.1 c.requires.segment.2 c.covered-count.ensures c.stored-size.ensures c.loop-judged-test.true).inside;
+        whole = cut _ _ c.stored-size.ensures (here_is _ _ _ c.args.blocks _ c.requires.segment.0 c.requires.segment.1 c.requires.segment.2 c.covered-count.ensures c.stored-size.ensures c.loop-judged-test.true).within;
         rules = asked _ c.sixteen.ensures c.rules-r.ensures;
       };
     }
 
 pub overflow_add-d : goal.overflow_add-d
-overflow_add-d c = omega (arith, (here-is _ _ _ c.args.blocks _ c.requires.segment.0 c.requires.segment.1 c.requires.segment.2 c.covered-count.ensures c.stored-size.ensures c.loop-judged-test.true).inside, (here-is _ _ _ c.args.blocks _ c.requires.segment.0 c.requires.segment.1 c.requires.segment.2 c.covered-count.ensures c.stored-size.ensures c.loop-judged-test.true).end)
+overflow_add-d c = omega (arith, (here_is _ _ _ c.args.blocks _ c.requires.segment.0 c.requires.segment.1 c.requires.segment.2 c.covered-count.ensures c.stored-size.ensures c.loop-judged-test.true).inside, (here_is _ _ _ c.args.blocks _ c.requires.segment.0 c.requires.segment.1 c.requires.segment.2 c.covered-count.ensures c.stored-size.ensures c.loop-judged-test.true).end)
 
 pub with_block-found-requires : goal.with_block-found-requires
 with_block-found-requires c =
-    omega (arith, c.loop-judged.invariant.most, c.loop-judged-test.true, (here-is _ _ _ c.args.blocks _ c.requires.segment.0 c.requires.segment.1 c.requires.segment.2 c.covered-count.ensures c.stored-size.ensures c.loop-judged-test.true).inside, (here-is _ _ _ c.args.blocks _ c.requires.segment.0 c.requires.segment.1 c.requires.segment.2 c.covered-count.ensures c.stored-size.ensures c.loop-judged-test.true).most)
+    omega (arith, c.loop-judged.invariant.most, c.loop-judged-test.true, (here_is _ _ _ c.args.blocks _ c.requires.segment.0 c.requires.segment.1 c.requires.segment.2 c.covered-count.ensures c.stored-size.ensures c.loop-judged-test.true).inside, (here_is _ _ _ c.args.blocks _ c.requires.segment.0 c.requires.segment.1 c.requires.segment.2 c.covered-count.ensures c.stored-size.ensures c.loop-judged-test.true).most)
 
 pub loop-judged-preserved : goal.loop-judged-preserved
 loop-judged-preserved c =

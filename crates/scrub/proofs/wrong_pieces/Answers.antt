@@ -30,18 +30,18 @@ module _ (r : Rules) (p : Place) (d f : List ℕ) (g : r.guard ≡ true) (a : r.
   by_both = decides p r.guard r.application _ _ _ g a
 
   module _ {x y : ℕ} (ex : x ≡ stored_guard f) (ey : y ≡ guard d) where
-    by-guard : (x ≡ y → ⊥) → true ≡ wrong
-    by-guard n = sym (by_both ∙ rw (ne_eqb (stored_guard f) (guard d) (λ e. n (ex ∙ e ∙ sym ey))) refl)
+    by_guard : (x ≡ y → ⊥) → true ≡ wrong
+    by_guard n = sym (by_both ∙ rw (ne_eqb (stored_guard f) (guard d) (λ e. n (ex ∙ e ∙ sym ey))) refl)
 
-    by-reference : {b : Bool} → x ≡ y → b ≡ reference_wrong r p f → b ≡ wrong
-    by-reference e eb = eb ∙ sym (by_both ∙ rw (eq-eqb (stored_guard f) (guard d) (sym ex ∙ e ∙ ey)) refl)
+    by_reference : {b : Bool} → x ≡ y → b ≡ reference_wrong r p f → b ≡ wrong
+    by_reference e eb = eb ∙ sym (by_both ∙ rw (eq-eqb (stored_guard f) (guard d) (sym ex ∙ e ∙ ey)) refl)
 
 pub returns-then-stored_guard-guard_through_rows : goal.returns-then-stored_guard-guard_through_rows
 returns-then-stored_guard-guard_through_rows c =
     let pre = c.requires.field_len in
-    by-guard _ _ _ _ pre.1 pre.2 c.stored_guard.ensures c.guard_through_rows.ensures c.if-stored_guard-guard_through_rows.true
+    by_guard _ _ _ _ pre.1 pre.2 c.stored_guard.ensures c.guard_through_rows.ensures c.if-stored_guard-guard_through_rows.true
 
 pub returns : goal.returns
 returns c =
     let pre = c.requires.field_len in
-    by-reference _ _ _ _ pre.1 pre.2 c.stored_guard.ensures c.guard_through_rows.ensures c.if-stored_guard-guard_through_rows.false c.reference_wrong.ensures
+    by_reference _ _ _ _ pre.1 pre.2 c.stored_guard.ensures c.guard_through_rows.ensures c.if-stored_guard-guard_through_rows.false c.reference_wrong.ensures

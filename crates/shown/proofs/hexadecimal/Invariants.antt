@@ -1,6 +1,5 @@
 -- `shown::hexadecimal`: the index stays within the bytes, and each is a byte.
 use Prim.Native.Nat.{◌-◌}
-use native.Mathlib.Omega.{arith}
 use lib.ListN.{length}
 use Rattle.shown.proofs.hexadecimal.Given as goal
 

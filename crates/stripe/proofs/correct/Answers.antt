@@ -3,7 +3,6 @@ use Rattle.stripe.proofs.Ladder.{members_told, passed}
 use Rattle.stripe.proofs.Fits.{correct_stopped, correct_unfit, correct_good}
 use mathlib.Core.Path.{ap}
 use mathlib.Core.Bool.{not}
-use borrow.Author.Rules.{rules}
 use Rattle.stripe.proofs.correct.Goals as goal
 
 pub returns-then-not-is_good : goal.returns-then-not-is_good

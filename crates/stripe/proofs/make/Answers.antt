@@ -1,12 +1,11 @@
 -- `stripe::make`: the rules first; then the lengths, asked at once.
-use mathlib.Core.Path.{◌≡◌, refl, ap, ◌∙◌}
+use mathlib.Core.Path.{ap, ◌∙◌}
 use native.Mathlib.Nat.{zero-mul}
 use native.Mathlib.Omega.{arith}
 use Rattle.stripe.specs.Stripe.{stripe_rules, in_range}
 use Rattle.stripe.proofs.Ladder.{all_most, parts_told, range_facts, passed}
 use Rattle.stripe.proofs.Fits.{make_stopped, make_unfit, make_good}
 use mathlib.Core.Bool.{not}
-use borrow.Author.Rules.{rules}
 use Rattle.stripe.proofs.make.Goals as goal
 
 pub returns-then-not-is_good : goal.returns-then-not-is_good

@@ -1,5 +1,5 @@
 -- `stripe::rebuild`: the rules with both numbers first; then the lengths, asked at once.
-use mathlib.Core.Path.{◌≡◌, sym, ap, ◌∙◌}
+use mathlib.Core.Path.{sym, ap, ◌∙◌}
 use mathlib.Core.Bool.{Bool, ◌&&◌}
 use Prim.Native.Nat.{◌+◌}
 use native.Mathlib.Omega.{arith}
@@ -8,7 +8,6 @@ use Rattle.stripe.specs.Stripe.{stripe_rules, in_range}
 use Rattle.stripe.proofs.Ladder.{all_most, parts_told, lost_facts, passed}
 use Rattle.stripe.proofs.Fits.{rebuild_stopped, rebuild_unfit, rebuild_good}
 use mathlib.Core.Bool.{not}
-use borrow.Author.Rules.{rules}
 use Rattle.stripe.proofs.rebuild.Goals as goal
 
 pub returns-then-not-is_good : goal.returns-then-not-is_good

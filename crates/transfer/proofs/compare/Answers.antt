@@ -1,9 +1,6 @@
 -- `transfer::compare`: a command that does not compare is good; of every other the blocks are compared.
 use mathlib.Core.Path.{refl, sym, ◌∙◌}
-use borrow.Author.Tests.{not-true, not-false}
 use Rattle.transfer.proofs.Comparing.{compare_fits, compared_on, compared_none}
-use mathlib.Core.Path.{ap}
-use mathlib.Core.Bool.{not}
 use Rattle.transfer.proofs.compare.Goals as goal
 
 pub returns-then-not-compares : goal.returns-then-not-compares

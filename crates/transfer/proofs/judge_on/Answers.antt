@@ -2,7 +2,6 @@
 use mathlib.Core.Path.{refl, sym, ◌∙◌}
 use Rattle.transfer.specs.Transfer.{judged_on}
 use Rattle.transfer.proofs.Shapes.{judged_none, run}
-use borrow.Author.Rules.{rules}
 use Rattle.transfer.proofs.judge_on.Goals as goal
 
 pub returns-then-count-eq0 : goal.returns-then-count-eq0
