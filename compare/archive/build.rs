@@ -1,5 +1,5 @@
-//! Links the product's static archive for this machine, which tools/archive leaves
-//! in target/native of the repository. LAMPTASSEL_LIB_DIR names another folder.
+//! Links the product's static archive, which tools/archive also leaves in target/native
+//! of the repository. LAMPTASSEL_LIB_DIR names another folder.
 
 use std::env;
 use std::path::{Path, PathBuf};
