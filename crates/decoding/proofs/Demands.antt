@@ -21,7 +21,7 @@ use Rattle.decoding.specs.declared.Named.TheVariants.{Known, Unknown}
 use Rattle.decoding.specs.declared.Decoded.TheVariants.{Served}
 use Rattle.decoding.specs.Commands.{is_long, check_bits, find, byte_zero, service_action, recognise, fields, decode_as, decode}
 use Rattle.decoding.specs.Bits.{SameAt, SameColumns, SameCommand}
-use Rattle.decoding.proofs.Laws.{decode_served, decode_known, decode_unknown, served_fields}
+use Rattle.decoding.proofs.Laws.{decode_served, decode_known, decode_unknown, served_fields, sixteen_fields}
 
 same_number : (at n : ℕ) (c c' : List ℕ) → SameAt at n c c' → number_at at n c ≡ number_at at n c'
 unfolding number_at
@@ -117,10 +117,6 @@ verify_alone_has_bits c k h n = bits_by c k (recognise c) refl h n
 -- the bytes of a 16-byte command with code 001 and byte-check bits 0 are decoded to `sixteen` of its operation, address and length
 module _ (c : List ℕ) (o : Operation) (a n : ℕ) (code : get_or c 1 0 / 32 ≡ 0b001) (check : check_bits o (get_or c 1 0) ≡ 0)
     (address : number_at 2 8 c ≡ a) (blocks : number_at 10 4 c ≡ n) where
-  sixteen_fields : fields o Sixteen c ≡ sixteen o a n
-  unfolding fields sixteen
-  sixteen_fields = rw (code, check, address, blocks) refl
-
   pub sixteen_decoded : recognise c ≡ Known o Sixteen → length c ≡ 16 → decode c ≡ Served (sixteen o a n)
   sixteen_decoded e long =
-      decode_known c e ∙ decode_served o Sixteen c long (λ l. absurd (true≢false (sym l))) ∙ ap Served sixteen_fields
+      decode_known c e ∙ decode_served o Sixteen c long (λ l. absurd (true≢false (sym l))) ∙ ap Served (sixteen_fields c o a n code check address blocks)

@@ -20,6 +20,7 @@ use Rattle.answer.specs.declared.Reason.TheVariants as reasons
 use Rattle.command.specs.declared.Operation.{Operation}
 use Rattle.command.specs.declared.Operation.TheVariants.{Read, Write, Verify}
 use Rattle.command.specs.declared.Command.{Command}
+use Rattle.command.specs.Sixteen.{sixteen}
 use Rattle.decoding.specs.declared.Form.{Form}
 use Rattle.decoding.specs.declared.Form.TheVariants.{Ten, Twelve, Sixteen, ThirtyTwo}
 use Rattle.decoding.specs.declared.Named.{Named}
@@ -177,3 +178,9 @@ bounded_by c k (Unknown a) e h p =
 
 pub served_bounded : (c : List ℕ) (k : Command) → decode c ≡ Served k → Bytes c → Bounded k
 served_bounded c k h p = bounded_by c k (recognise c) refl h p
+
+-- the fields of a 16-byte command with code 001 and byte-check bits 0
+pub sixteen_fields : (c : List ℕ) (o : Operation) (a n : ℕ) → get_or c 1 0 / 32 ≡ 0b001 → check_bits o (get_or c 1 0) ≡ 0 → number_at 2 8 c ≡ a
+    → number_at 10 4 c ≡ n → fields o Sixteen c ≡ sixteen o a n
+unfolding fields sixteen
+sixteen_fields c o a n code check address blocks = rw (code, check, address, blocks) refl
