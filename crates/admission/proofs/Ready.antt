@@ -1,14 +1,13 @@
 -- What admission has settled of a command that goes on.
 -- Assumes nothing.
 use mathlib.Core.Path.{◌≡◌, refl, ap}
-use mathlib.Core.Bool.{Bool, true, false, not, ◌&&◌, cond}
+use mathlib.Core.Bool.{true, not, ◌&&◌}
 use mathlib.Core.List.{List}
 use Prim.Native.Nat.{ℕ}
-use native.Mathlib.Omega.{arith}
 use borrow.Author.Tests.{eqb-true, not-false}
 use lib.Dec.{eqb}
-use Rattle.answer.specs.Answer.{is_good}
-use Rattle.answer.specs.declared.Answer.{Answer}
+use Rattle.std.specs.Prelude.{Ok, Err}
+use Rattle.answer.specs.Answer.{Answer, is_good}
 use Rattle.answer.specs.declared.Reason.TheVariants as reasons
 use Rattle.answer.proofs.Ladder.{both_good, not_refused}
 use Rattle.segment.specs.declared.Description.{Description}
@@ -17,14 +16,10 @@ use Rattle.segment.specs.Places.{range_rule}
 use Rattle.segment.proofs.Rules.{rules_segment}
 use Rattle.segment.proofs.Places.{range_facts}
 use Rattle.command.specs.declared.Command.{Command}
-use Rattle.decoding.specs.Commands.{decode}
-use Rattle.decoding.specs.declared.Decoded.{Decoded}
-use Rattle.decoding.specs.declared.Decoded.TheVariants as decoded
+use Rattle.decoding.specs.Commands.{Decoded, decode}
 use Rattle.refusal.specs.declared.Lengths.{Lengths}
 use Rattle.refusal.specs.Refusal.{long_rule, other_rule, plain_rule, type_rules, code_rule, check_rule, size_rule, buffer_of, buffer_rule, refusal}
-use Rattle.admission.specs.declared.Admitted.{Admitted}
-use Rattle.admission.specs.declared.Admitted.TheVariants.{Refused, Go}
-use Rattle.admission.specs.Admission.{admit_decoded, admitted}
+use Rattle.admission.specs.Admission.{Decided, behind, admit_decoded, admitted}
 use Rattle.admission.specs.Ready.{Ready}
 
 plain_facts : (d : Description) (c : Command) → is_good (type_rules d c) ≡ true → d.kind ≡ 0 → c.code ≡ 0
@@ -37,7 +32,7 @@ buffer_facts : (d : Description) (c : Command) (l : Lengths) → is_good (buffer
 unfolding buffer_rule
 buffer_facts d c l e = eqb-true l.buffer (buffer_of d c) (not-false _ (not_refused _ _ e))
 
-ready : (d : Description) (c : Command) (l : Lengths) → is_good (segment_rules d l.segment) ≡ true → is_good (refusal d c l) ≡ true → Ready d c l
+pub ready : (d : Description) (c : Command) (l : Lengths) → is_good (segment_rules d l.segment) ≡ true → is_good (refusal d c l) ≡ true → Ready d c l
 unfolding refusal
 ready d c l s e =
     let segment = rules_segment d l.segment s in
@@ -57,28 +52,28 @@ ready d c l s e =
     }
 
 -- ---- and so is a command that goes on
-went_on : (c : Command) (g : Bool) (a : Answer) (x : Admitted) → cond g x (Refused a) ≡ Go c → (g ≡ true) × (x ≡ Go c)
-went_on c true a x e = (refl, e)
-went_on c false a x e = let z : ◌≡◌ {A = ℕ} 0 1 = cc in absurd (omega arith)
+went_on : (a : Answer) (x : Decided) (c : Command) → behind a x ≡ Ok c → (is_good a ≡ true) × (x ≡ Ok c)
+went_on (Ok u) x c e = (refl, e)
+went_on (Err r) x c e = cc
 
 -- what goes on was served, and passed its rules
 record Passed (d : Description) (l : Lengths) (r : Decoded) (c : Command) : Type 0 where
-  served : r ≡ decoded.Served c
+  served : r ≡ Ok c
   rules : is_good (refusal d c l) ≡ true
 
-passed : (d : Description) (l : Lengths) (r : Decoded) (c : Command) → admit_decoded d r l ≡ Go c → Passed d l r c
-passed d l (decoded.Served k) c e =
-    let w = went_on c (is_good (refusal d k l)) (refusal d k l) (Go k) e in
+passed : (d : Description) (l : Lengths) (r : Decoded) (c : Command) → admit_decoded d r l ≡ Ok c → Passed d l r c
+passed d l (Ok k) c e =
+    let w = went_on (refusal d k l) (Ok k) c e in
     let same : k ≡ c = cc in
-    record { served = ap decoded.Served same; rules = rw (← same) w.0 }
-passed d l (decoded.Refused a) c e = let z : ◌≡◌ {A = ℕ} 0 1 = cc in absurd (omega arith)
+    record { served = ap Ok same; rules = rw (← same) w.0 }
+passed d l (Err a) c e = cc
 
-module _ (d : Description) (l : Lengths) (command : List ℕ) (c : Command) (e : admitted d l command ≡ Go c) where
-  went : (is_good (segment_rules d l.segment) ≡ true) × (admit_decoded d (decode command) l ≡ Go c)
+module _ (d : Description) (l : Lengths) (command : List ℕ) (c : Command) (e : admitted d l command ≡ Ok c) where
+  went : (is_good (segment_rules d l.segment) ≡ true) × (admit_decoded d (decode command) l ≡ Ok c)
   unfolding admitted
-  went = went_on c _ (segment_rules d l.segment) (admit_decoded d (decode command) l) e
+  went = went_on (segment_rules d l.segment) (admit_decoded d (decode command) l) c e
 
-  pub admitted_served : decode command ≡ decoded.Served c
+  pub admitted_served : decode command ≡ Ok c
   admitted_served = (passed d l (decode command) c went.1).served
 
   pub admitted_ready : Ready d c l

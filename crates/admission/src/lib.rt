@@ -1,45 +1,36 @@
 // The refusals that go by the description, the lengths and the command's bytes, in the document's order.
 #![tactic(auto)]
 
-ghost use Rattle.std.specs.Prelude.{◌≡◌};
-ghost use Rattle.segment.specs.Segment.{Segment};
-ghost use Rattle.admission.specs.Admission.{admit_command, admitted};
+ghost use Rattle.std.specs.Prelude.{◌≡◌, MatchResult};
+ghost use Rattle.admission.specs.Admission.{admitted};
+ghost use Rattle.admission.specs.Ready.{Ready};
 
-use answer::Answer;
+use answer::Refusal;
 use command::Command;
-use decoding::Decoded;
 use refusal::Lengths;
-use segment::Description;
+use segment::{Description, Segment};
 
-// What admission decides: the refusal, or the command that goes on.
+// A command that goes on, the segment that it goes on with, and the lengths of what is lent to it.
 #[derive(Clone, Copy)]
-pub enum Admitted {
-    Refused(Answer),
-    Go(Command),
-}
-
-fn admit_command(d: Description, c: Command, lengths: Lengths) -> Admitted
-    requires { Segment d }
-    ensures { result ≡ admit_command d c lengths }
-{
-    let a = refusal::refusal(d, c, lengths);
-    if answer::is_good(a) {
-        return Admitted::Go(c);
-    }
-    Admitted::Refused(a)
+pub struct Admitted {
+    pub segment: Segment,
+    pub command: Command,
+    pub lengths: Lengths,
+    pub ghost ready: { Ready segment.numbers command lengths },
 }
 
 // All that is decided before a byte of the segment or the buffer is looked at.
-pub fn admit(d: Description, lengths: Lengths, command: &[u8]) -> Admitted
-    ensures { result ≡ admitted d lengths command.now }
+pub fn admit(d: Description, lengths: Lengths, command: &[u8]) -> Result<Admitted, Refusal>
+    ensures { MatchResult result
+        (λ a. (Ok a.command ≡ admitted d lengths command.now) × (a.segment.numbers ≡ d) × (a.lengths ≡ lengths))
+        (λ e. Err e ≡ admitted d lengths command.now) }
 {
-    let a = segment::segment_rules(d, lengths.segment);
-    if !answer::is_good(a) {
-        return Admitted::Refused(a);
-    }
-    let decoded = decoding::decode(command);
-    match decoded {
-        Decoded::Refused(r) => Admitted::Refused(Answer::Refused(r)),
-        Decoded::Served(c) => admit_command(d, c, lengths),
-    }
+    let segment = Segment::of_bytes(d, lengths.segment)?;
+    let asked = decoding::decode(command)?;
+    refusal::refusal(segment, asked, lengths)?;
+    Ok(Admitted {
+        segment,
+        command: asked,
+        lengths,
+    })
 }

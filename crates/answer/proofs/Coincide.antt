@@ -5,7 +5,6 @@ use mathlib.Core.Path.{◌≡◌, sym, ◌∙◌}
 use Rattle.answer.proofs.number.Reads as number-reads
 use Rattle.answer.proofs.address.Reads as address-reads
 use Rattle.answer.proofs.place.Reads as place-reads
-use Rattle.answer.proofs.is_good.Reads as is-good-reads
 use Rattle.answer.proofs.refused_if.Reads as refused-if-reads
 use Rattle.answer.proofs.sense_numbered.Reads as sense-numbered-reads
 
@@ -17,9 +16,6 @@ address κs a x y s t p q = p ∙ sym q
 
 pub place : (κs : _) (a : _) (x y : _) (s t : _) → place-reads.Post κs a x s → place-reads.Post κs a y t → x ≡ y
 place κs a x y s t p q = p ∙ sym q
-
-pub is_good : (κs : _) (a : _) (x y : _) (s t : _) → is-good-reads.Post κs a x s → is-good-reads.Post κs a y t → x ≡ y
-is_good κs a x y s t p q = p ∙ sym q
 
 pub refused_if : (κs : _) (a : _) (x y : _) (s t : _) → refused-if-reads.Post κs a x s → refused-if-reads.Post κs a y t → x ≡ y
 refused_if κs a x y s t p q = p ∙ sym q

@@ -5,10 +5,10 @@ use mathlib.Core.Path.{◌≡◌, refl, sym, ◌∙◌}
 use mathlib.Core.Bool.{Bool, true, false, ◌&&◌, false≢true}
 use mathlib.Core.List.{map}
 use lib.Dec.{eqb, leb}
-use Rattle.answer.specs.Answer.{Row, field_row, differs_row, reason_row, number_of, sense_of, address_of, is_good, for_protection, for_difference, sense_numbered, table, in_table}
+use Rattle.std.specs.Prelude.{Ok, Err}
+use Rattle.answer.specs.Answer.{Answer, wrong, differs, refused, Row, field_row, differs_row, reason_row, number_of, sense_of, address_of, is_good, for_protection, for_difference, sense_numbered, table, in_table}
 use Rattle.answer.specs.Outcome.{leaving}
-use Rattle.answer.specs.declared.Answer.{Answer}
-use Rattle.answer.specs.declared.Answer.TheVariants.{Good, Wrong, BlockDiffers, Refused}
+use Rattle.answer.specs.declared.Refusal.TheVariants.{Wrong, BlockDiffers, Refused}
 use Rattle.answer.specs.declared.Field.{Field}
 use Rattle.answer.specs.declared.Field.TheVariants.{Guard, Application, Reference}
 use Rattle.answer.specs.declared.Reason.{Reason}
@@ -44,47 +44,47 @@ reason_there TransferTooLarge = (refl, refl, refl, refl, refl)
 
 -- "0 good": "Any answer but 0" is a refusal
 pub good_is_zero : (a : Answer) → is_good a ≡ eqb (number_of a) 0
-good_is_zero Good = refl
-good_is_zero (Wrong f a p) = sym (field_there f).0
-good_is_zero (BlockDiffers a) = sym differs_there.0
-good_is_zero (Refused r) = sym (reason_there r).0
+good_is_zero (Ok u) = refl
+good_is_zero (Err (Wrong f a p)) = sym (field_there f).0
+good_is_zero (Err (BlockDiffers a)) = sym differs_there.0
+good_is_zero (Err (Refused r)) = sym (reason_there r).0
 
 -- "every input gets exactly one answer of the table": whatever the answer is, its number stands there
 pub in_table_lem : (a : Answer) → in_table (number_of a) ≡ true
-in_table_lem Good = refl
-in_table_lem (Wrong f a p) = (field_there f).1
-in_table_lem (BlockDiffers a) = differs_there.1
-in_table_lem (Refused r) = (reason_there r).1
+in_table_lem (Ok u) = refl
+in_table_lem (Err (Wrong f a p)) = (field_there f).1
+in_table_lem (Err (BlockDiffers a)) = differs_there.1
+in_table_lem (Err (Refused r)) = (reason_there r).1
 
 -- "8, 9, 10": exactly the answers on a field
-pub wrong_for_protection : (f : Field) (a p : ℕ) → for_protection (Wrong f a p) ≡ true
+pub wrong_for_protection : (f : Field) (a p : ℕ) → for_protection (wrong f a p) ≡ true
 wrong_for_protection f a p = (field_there f).2
 
-pub refused_for_no_field : (r : Reason) → for_protection (Refused r) ≡ false
+pub refused_for_no_field : (r : Reason) → for_protection (refused r) ≡ false
 refused_for_no_field r = (reason_there r).2
 
 -- and "15" exactly the answer on a block, which has an address and place 0
-pub differs_for_no_field : (a : ℕ) → for_protection (BlockDiffers a) ≡ false
+pub differs_for_no_field : (a : ℕ) → for_protection (differs a) ≡ false
 differs_for_no_field a = differs_there.2
 
-pub refused_for_no_block : (r : Reason) → for_difference (Refused r) ≡ false
+pub refused_for_no_block : (r : Reason) → for_difference (refused r) ≡ false
 refused_for_no_block r = (reason_there r).3
 
-pub fifteen_names_a_block : (a : Answer) → for_difference a ≡ true → a ≡ BlockDiffers (address_of a)
-fifteen_names_a_block Good e = absurd (false≢true e)
-fifteen_names_a_block (Wrong f a p) e = absurd (false≢true (sym (field_there f).3 ∙ e))
-fifteen_names_a_block (BlockDiffers a) e = refl
-fifteen_names_a_block (Refused r) e = absurd (false≢true (sym (reason_there r).3 ∙ e))
+pub fifteen_names_a_block : (a : Answer) → for_difference a ≡ true → a ≡ differs (address_of a)
+fifteen_names_a_block (Ok u) e = absurd (false≢true e)
+fifteen_names_a_block (Err (Wrong f a p)) e = absurd (false≢true (sym (field_there f).3 ∙ e))
+fifteen_names_a_block (Err (BlockDiffers a)) e = refl
+fifteen_names_a_block (Err (Refused r)) e = absurd (false≢true (sym (reason_there r).3 ∙ e))
 
 -- "| sense |": of each of the table's numbers the sense that stands in its row
 pub senses_as_listed : map (λ (r : Row). sense_numbered r.number) table ≡ map (λ (r : Row). r.sense) table
 senses_as_listed = refl
 
 pub sense_by_number : (a : Answer) → sense_numbered (number_of a) ≡ sense_of a
-sense_by_number Good = refl
-sense_by_number (Wrong f a p) = (field_there f).4
-sense_by_number (BlockDiffers a) = differs_there.4
-sense_by_number (Refused r) = (reason_there r).4
+sense_by_number (Ok u) = refl
+sense_by_number (Err (Wrong f a p)) = (field_there f).4
+sense_by_number (Err (BlockDiffers a)) = differs_there.4
+sense_by_number (Err (Refused r)) = (reason_there r).4
 
 -- "Any answer but 0 changes no lent byte"
 pub refused_leaves : {L : Type 0} (a : Answer) (old new : L) → is_good (leaving a old new).answer ≡ false → (leaving a old new).left ≡ old

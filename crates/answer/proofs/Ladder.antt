@@ -3,60 +3,52 @@
 use mathlib.Core.Path.{◌≡◌, refl, sym, ap, ◌∙◌}
 use mathlib.Core.Logic.{◌↔◌, ◌⊎◌, inl, inr, ⊎_elim}
 use mathlib.Core.Bool.{Bool, true, false, not, ◌&&◌, cond, true≢false}
-use borrow.Author.Tests.{not-true, not-false}
 use lib.Dec.{T}
-use Rattle.answer.specs.Answer.{is_good, or_else, refused_if}
-use Rattle.answer.specs.declared.Answer.{Answer}
-use Rattle.answer.specs.declared.Answer.TheVariants.{Good, Wrong, BlockDiffers, Refused}
+use Rattle.std.specs.Prelude.{Ok, Err}
+use Rattle.answer.specs.Answer.{Answer, good, refused, is_good, or_else, refused_if}
+use Rattle.answer.specs.declared.Refusal.{Refusal}
+use Rattle.answer.specs.declared.Refusal.TheVariants.{Wrong, BlockDiffers, Refused}
 use Rattle.answer.specs.declared.Reason.{Reason}
 
 -- an answer is the good one, or no good one
-pub good_or : (a : Answer) → (a ≡ Good) ⊎ (is_good a ≡ false)
-good_or Good = inl refl
-good_or (Wrong f a p) = inr refl
-good_or (BlockDiffers a) = inr refl
-good_or (Refused r) = inr refl
+pub good_or : (a : Answer) → (a ≡ good) ⊎ (is_good a ≡ false)
+good_or (Ok u) = inl refl
+good_or (Err (Wrong f a p)) = inr refl
+good_or (Err (BlockDiffers a)) = inr refl
+good_or (Err (Refused r)) = inr refl
 
-pub not_both : (a : Answer) → a ≡ Good → is_good a ≡ false → ⊥
+pub not_both : (a : Answer) → a ≡ good → is_good a ≡ false → ⊥
 not_both a g w = true≢false (sym (ap is_good g) ∙ w)
 
-pub good_is : (a : Answer) → is_good a ≡ true → a ≡ Good
+pub good_is : (a : Answer) → is_good a ≡ true → a ≡ good
 good_is a g = ⊎_elim (λ e. e) (λ w. absurd (true≢false (sym g ∙ w))) (good_or a)
 
-pub or_else_good : (a b : Answer) → (or_else a b ≡ Good) ↔ ((a ≡ Good) × (b ≡ Good))
+pub or_else_good : (a b : Answer) → (or_else a b ≡ good) ↔ ((a ≡ good) × (b ≡ good))
 or_else_good a b =
     ⊎_elim
     (λ g. rw g (λ e. (refl, e), λ two. two.1))
     (λ w. rw w (λ e. absurd (not_both a e w), λ two. two.0))
     (good_or a)
 
-pub or_else_none : (a : Answer) → or_else a Good ≡ a
-or_else_none Good = refl
-or_else_none (Wrong f a p) = refl
-or_else_none (BlockDiffers a) = refl
-or_else_none (Refused r) = refl
+pub or_else_none : (a : Answer) → or_else a good ≡ a
+or_else_none (Ok u) = refl
+or_else_none (Err (Wrong f a p)) = refl
+or_else_none (Err (BlockDiffers a)) = refl
+or_else_none (Err (Refused r)) = refl
 
 pub or_else_assoc : (a b c : Answer) → or_else a (or_else b c) ≡ or_else (or_else a b) c
-or_else_assoc Good b c = refl
-or_else_assoc (Wrong f a p) b c = refl
-or_else_assoc (BlockDiffers a) b c = refl
-or_else_assoc (Refused r) b c = refl
+or_else_assoc (Ok u) b c = refl
+or_else_assoc (Err (Wrong f a p)) b c = refl
+or_else_assoc (Err (BlockDiffers a)) b c = refl
+or_else_assoc (Err (Refused r)) b c = refl
 
--- `a` is what a rule's function answered, `g` whether that is good
-module _ (a rule rest : Answer) (g : Bool) (e : a ≡ rule) (t : g ≡ is_good a) where
-  pub stops : not g ≡ true → or_else rule rest ≡ a
-  stops n = rw (← e, sym t ∙ not-true g n)
+-- a rule whose refusal `?` hands on
+module _ (rule rest : Answer) where
+  pub hands_on : (e : Refusal) → Err e ≡ rule → Err e ≡ or_else rule rest
+  hands_on e h = rw (← h) refl
 
-  pub goes_on : not g ≡ false → or_else rule rest ≡ rest
-  goes_on n = rw (← e, sym t ∙ not-false g n)
-
--- what a caller of a rule's function knows
-module _ (a rule : Answer) (g : Bool) (e : a ≡ rule) (t : g ≡ is_good a) where
-  pub rule_good : not g ≡ false → is_good rule ≡ true
-  rule_good n = rw (← e) (sym t ∙ not-false g n)
-
-  pub rule_refuses : not g ≡ true → is_good rule ≡ false
-  rule_refuses n = rw (← e) (sym t ∙ not-true g n)
+  pub goes_past : good ≡ rule → or_else rule rest ≡ rest
+  goes_past h = rw (← h) refl
 
 -- a good answer of a ladder is good at every rung
 pub both_good : (a b : Answer) → is_good (or_else a b) ≡ true → (is_good a ≡ true) × (is_good b ≡ true)
@@ -80,10 +72,10 @@ not_refused true r e = absurd (true≢false (sym e))
 not_refused false r e = refl
 
 -- a rule that demands something
-pub met : (b : Bool) (r : Reason) → T b → refused_if (not b) r ≡ Good
+pub met : (b : Bool) (r : Reason) → T b → refused_if (not b) r ≡ good
 met true r t = refl
 met false r t = absurd t
 
-pub unmet : (b : Bool) (r : Reason) → (T b → ⊥) → refused_if (not b) r ≡ Refused r
+pub unmet : (b : Bool) (r : Reason) → (T b → ⊥) → refused_if (not b) r ≡ refused r
 unmet true r n = absurd (n tt)
 unmet false r n = refl

@@ -1,7 +1,7 @@
 -- "Answer numbers": the table's number, sense, address and place for each answer; of document 02, its number 15.
-use Rattle.std.specs.Prelude.{ℕ, Bool, true, false, ◌&&◌, ◌||◌, cond, List, [], ◌∷◌, eqb, leb}
-use Rattle.answer.specs.declared.Answer.{Answer}
-use Rattle.answer.specs.declared.Answer.TheVariants.{Good, Wrong, BlockDiffers, Refused}
+use Rattle.std.specs.Prelude.{ℕ, Bool, true, false, ◌&&◌, ◌||◌, cond, List, [], ◌∷◌, eqb, leb, Result, Ok, Err}
+use Rattle.answer.specs.declared.Refusal.{Refusal}
+use Rattle.answer.specs.declared.Refusal.TheVariants.{Wrong, BlockDiffers, Refused}
 use Rattle.answer.specs.declared.Field.{Field}
 use Rattle.answer.specs.declared.Field.TheVariants.{Guard, Application, Reference}
 use Rattle.answer.specs.declared.Reason.{Reason}
@@ -44,12 +44,33 @@ reason_row ParameterInvalid = row 12 0x05_26_00
 reason_row ListingRecordBad = row 13 0
 reason_row TransferTooLarge = row 14 0
 
+-- an answer: good, or why it is not
+abbrev pub Answer : Type 0
+Answer = Result (Unit {0}) Refusal
+
+abbrev pub good : Answer
+good = Ok tt
+
+abbrev pub wrong : Field → ℕ → ℕ → Answer
+wrong f a p = Err (Wrong f a p)
+
+abbrev pub differs : ℕ → Answer
+differs a = Err (BlockDiffers a)
+
+abbrev pub refused : Reason → Answer
+refused r = Err (Refused r)
+
+-- the answer of a call that hands something back where it is good
+abbrev pub answer_of : {A : Type 0} → Result A Refusal → Answer
+answer_of (Ok x) = good
+answer_of (Err e) = Err e
+
 -- the row of an answer: its number and its sense follow
 abbrev pub row_of : Answer → Row
-row_of Good = good_row
-row_of (Wrong f a p) = field_row f
-row_of (BlockDiffers a) = differs_row
-row_of (Refused r) = reason_row r
+row_of (Ok u) = good_row
+row_of (Err (Wrong f a p)) = field_row f
+row_of (Err (BlockDiffers a)) = differs_row
+row_of (Err (Refused r)) = reason_row r
 
 abbrev pub number_of : Answer → ℕ
 number_of a = (row_of a).number
@@ -60,22 +81,20 @@ sense_of a = (row_of a).sense
 -- "Numbers 8 to 10 also give the block's address and the interval's place in the transfer, from 0; all others give 0 and 0.", and 15
 -- "the address of the first differing block and place 0"
 abbrev pub address_of : Answer → ℕ
-address_of Good = 0
-address_of (Wrong f a p) = a
-address_of (BlockDiffers a) = a
-address_of (Refused r) = 0
+address_of (Ok u) = 0
+address_of (Err (Wrong f a p)) = a
+address_of (Err (BlockDiffers a)) = a
+address_of (Err (Refused r)) = 0
 
 abbrev pub place_of : Answer → ℕ
-place_of Good = 0
-place_of (Wrong f a p) = p
-place_of (BlockDiffers a) = 0
-place_of (Refused r) = 0
+place_of (Ok u) = 0
+place_of (Err (Wrong f a p)) = p
+place_of (Err (BlockDiffers a)) = 0
+place_of (Err (Refused r)) = 0
 
 abbrev pub is_good : Answer → Bool
-is_good Good = true
-is_good (Wrong f a p) = false
-is_good (BlockDiffers a) = false
-is_good (Refused r) = false
+is_good (Ok u) = true
+is_good (Err e) = false
 
 -- "8, 9, 10 | guard, application, reference check failed"
 abbrev pub for_protection : Answer → Bool
@@ -87,7 +106,7 @@ for_difference a = eqb (number_of a) 15
 
 -- a rule: the refusal where something holds
 abbrev pub refused_if : Bool → Reason → Answer
-refused_if b r = cond b (Refused r) Good
+refused_if b r = cond b (refused r) good
 
 -- the first of two answers that is not good
 abbrev pub or_else : Answer → Answer → Answer

@@ -1,7 +1,6 @@
 -- What comes of a call: its answer, and what is left of what was lent to it.
 use Rattle.std.specs.Prelude.{cond}
-use Rattle.answer.specs.Answer.{is_good}
-use Rattle.answer.specs.declared.Answer.{Answer}
+use Rattle.answer.specs.Answer.{Answer, is_good}
 
 pub record Outcome (L : Type 0) : Type 0 where
   pub answer : Answer

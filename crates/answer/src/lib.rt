@@ -2,7 +2,8 @@
 #![tactic(auto)]
 
 ghost use Rattle.std.specs.Prelude.{◌≡◌};
-ghost use Rattle.answer.specs.Answer.{field_row, reason_row, number_of, address_of, place_of, is_good, refused_if, sense_numbered};
+ghost use Rattle.answer.specs.declared.Refusal.TheVariants.{Refused};
+ghost use Rattle.answer.specs.Answer.{field_row, reason_row, number_of, address_of, place_of, refused_if, sense_numbered};
 
 // A field of an interval.
 #[derive(Clone, Copy)]
@@ -28,9 +29,9 @@ pub enum Reason {
     TransferTooLarge,
 }
 
+// Why a call is not good.
 #[derive(Clone, Copy)]
-pub enum Answer {
-    Good,
+pub enum Refusal {
     // the field whose check failed, the block's address and the interval's place in the transfer
     Wrong(Field, u64, u64),
     // the address of the first block that is not the one sent
@@ -38,43 +39,61 @@ pub enum Answer {
     Refused(Reason),
 }
 
-fn field_number(f: Field) -> u64
-    ensures { result ≡ (field_row f).number }
-{
-    match f {
-        Field::Guard => 8,
-        Field::Application => 9,
-        Field::Reference => 10,
+impl From<Reason> for Refusal {
+    ghost from_gives = { λ r e. e ≡ Refused r };
+
+    fn from(r: Reason) -> Refusal
+        ensures { result ≡ Refused r }
+    {
+        Refusal::Refused(r)
     }
 }
 
-fn reason_number(r: Reason) -> u64
-    ensures { result ≡ (reason_row r).number }
-{
-    match r {
-        Reason::DescriptionBad => 1,
-        Reason::SegmentLengthWrong => 2,
-        Reason::CommandLengthWrong => 3,
-        Reason::BufferLengthWrong => 4,
-        Reason::OperationInvalid => 5,
-        Reason::FieldInvalid => 6,
-        Reason::AddressOutOfRange => 7,
-        Reason::StripeShapeBad => 11,
-        Reason::ParameterInvalid => 12,
-        Reason::ListingRecordBad => 13,
-        Reason::TransferTooLarge => 14,
+// Good, or why not.
+pub type Answer = Result<(), Refusal>;
+
+impl Field {
+    fn number(self) -> u64
+        ensures { result ≡ (field_row self).number }
+    {
+        match self {
+            Field::Guard => 8,
+            Field::Application => 9,
+            Field::Reference => 10,
+        }
+    }
+}
+
+impl Reason {
+    fn number(self) -> u64
+        ensures { result ≡ (reason_row self).number }
+    {
+        match self {
+            Reason::DescriptionBad => 1,
+            Reason::SegmentLengthWrong => 2,
+            Reason::CommandLengthWrong => 3,
+            Reason::BufferLengthWrong => 4,
+            Reason::OperationInvalid => 5,
+            Reason::FieldInvalid => 6,
+            Reason::AddressOutOfRange => 7,
+            Reason::StripeShapeBad => 11,
+            Reason::ParameterInvalid => 12,
+            Reason::ListingRecordBad => 13,
+            Reason::TransferTooLarge => 14,
+        }
     }
 }
 
 // The answer's number.
+// Kept: this and the next two are functions, and no `From`: an answer is std's Result, for which no impl can stand here.
 pub fn number(a: Answer) -> u64
     ensures { result ≡ number_of a }
 {
     match a {
-        Answer::Good => 0,
-        Answer::Wrong(f, _, _) => field_number(f),
-        Answer::BlockDiffers(_) => 15,
-        Answer::Refused(r) => reason_number(r),
+        Ok(()) => 0,
+        Err(Refusal::Wrong(f, _, _)) => f.number(),
+        Err(Refusal::BlockDiffers(_)) => 15,
+        Err(Refusal::Refused(r)) => r.number(),
     }
 }
 
@@ -83,10 +102,9 @@ pub fn address(a: Answer) -> u64
     ensures { result ≡ address_of a }
 {
     match a {
-        Answer::Good => 0,
-        Answer::Wrong(_, block, _) => block,
-        Answer::BlockDiffers(block) => block,
-        Answer::Refused(_) => 0,
+        Err(Refusal::Wrong(_, block, _)) => block,
+        Err(Refusal::BlockDiffers(block)) => block,
+        _ => 0,
     }
 }
 
@@ -95,21 +113,8 @@ pub fn place(a: Answer) -> u64
     ensures { result ≡ place_of a }
 {
     match a {
-        Answer::Good => 0,
-        Answer::Wrong(_, _, interval) => interval,
-        Answer::BlockDiffers(_) => 0,
-        Answer::Refused(_) => 0,
-    }
-}
-
-pub fn is_good(a: Answer) -> bool
-    ensures { result ≡ is_good a }
-{
-    match a {
-        Answer::Good => true,
-        Answer::Wrong(_, _, _) => false,
-        Answer::BlockDiffers(_) => false,
-        Answer::Refused(_) => false,
+        Err(Refusal::Wrong(_, _, interval)) => interval,
+        _ => 0,
     }
 }
 
@@ -118,11 +123,12 @@ pub fn refused_if(holds: bool, r: Reason) -> Answer
     ensures { result ≡ refused_if holds r }
 {
     if holds {
-        return Answer::Refused(r);
+        return Err(Refusal::Refused(r));
     }
-    Answer::Good
+    Ok(())
 }
 
+// Kept: a number to a number, since a C program asks by the number that it was handed.
 // The sense that goes with an answer's number: key, code and qualifier, two hexadecimal digits each; 0 where the table has none.
 pub fn sense_numbered(number: u64) -> u32
     ensures { result ≡ sense_numbered number }

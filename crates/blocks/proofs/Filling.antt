@@ -30,15 +30,15 @@ module _ {A : Type 0} {piece : A → List ℕ → List ℕ} {next : A → A} {P 
   room h = omega (arith, peel_within left a p end h f.to, f.kept, f.inside)
 
   -- the part that was lent comes back with the next piece
-  pub turn : (new : List ℕ) (then : A) → 0 < left → length new ≡ length (mid_of a (a + p - a) dst) → new ≡ piece t (drop i src) → then ≡ next t
-      → Filling piece next P p end src old whole (left - 1) (i + P) (a + p) then (put_mid a (a + p - a) dst new)
-  turn new then h lent e on =
+  pub turn : {left' i' a' : ℕ} → left' ≡ left - 1 → i' ≡ i + P → a' ≡ a + p → (new : List ℕ) (then : A) → 0 < left → length new ≡ length (mid_of a (a + p - a) dst) → new ≡ piece t (drop i src) → then ≡ next t
+      → Filling piece next P p end src old whole left' i' a' then (put_mid a (a + p - a) dst new)
+  turn fewer forth forth' new then h lent e on =
       let fits : a + p ≤ length dst = room h in
       let long : length new ≡ p = lent ∙ mid_len a (a + p) dst fits ∙ omega arith in
       let put_in : put_mid a (a + p - a) dst new ≡ put a new dst = put_back a (a + p) dst new (omega arith) (omega arith) in
       let enough : a + length new ≤ length dst = rw long fits in
       let behind : a + length new ≤ end = rw long (peel_within left a p end h f.to) in
-      rw (put_in, on)
+      rw (fewer, forth, forth', put_in, on)
       (record {
         kept = put_length a new dst enough ∙ f.kept;
         from = peel_rest left i P (length src) h f.from;
@@ -53,9 +53,10 @@ module _ {A : Type 0} {piece : A → List ℕ → List ℕ} {next : A → A} {P 
       let here : a ≡ end = omega (arith, peel_end left a p end h f.to, f.to) in
       rw (none, append-nil, here, take-append-drop) at f.made
 
-pub begin : {A : Type 0} (piece : A → List ℕ → List ℕ) (next : A → A) (P p at end k : ℕ) (t : A) (src old new : List ℕ) → k * P ≡ length src → at + k * p ≡ end → end ≤ length old
-    → runs piece next P k t src ≡ new → length new ≡ k * p → Filling piece next P p end src old (put at new old) k 0 at t old
+pub begin : {A : Type 0} {left i a : ℕ} (piece : A → List ℕ → List ℕ) (next : A → A) (P p at end k : ℕ) (t : A) (src old new : List ℕ) → k * P ≡ length src → at + k * p ≡ end → end ≤ length old
+    → runs piece next P k t src ≡ new → length new ≡ k * p → left ≡ k → i ≡ 0 → a ≡ at → Filling piece next P p end src old (put at new old) left i a t old
 unfolding put
-begin piece next P p at end k t src old new e l h all long =
+begin piece next P p at end k t src old new e l h all long whole first place =
     let ends : at + length new ≡ end = omega arith in
-    record { kept = refl; from = rw zero-add e; to = l; inside = h; made = rw (ends, all) (append_assoc (take at old) new (drop end old)) }
+    rw (whole, first, place)
+    (record { kept = refl; from = rw zero-add e; to = l; inside = h; made = rw (ends, all) (append_assoc (take at old) new (drop end old)) })

@@ -11,15 +11,10 @@ pub fn take_user_data(d: &mut [u8], s: &[u8], size: usize, count: usize)
     requires size_value_2 { count * size ≡ length d.old }
     ensures { d.new ≡ user_data size count s.now }
 {
-    let mut left = count;
-    while 0 < left {
-        let done = count - left;
-        let i = done * (size + 8);
-        let m = i + size;
-        let a = done * size;
-        let e = a + size;
-        words::copy(&mut d[a..e], &s[i..m]);
-        left -= 1;
+    for i in 0..count {
+        let from = i * (size + 8);
+        let to = i * size;
+        words::copy(&mut d[to..to + size], &s[from..from + size]);
     }
 }
 
@@ -29,15 +24,9 @@ pub fn store_blocks(segment: &mut [u8], at: usize, s: &[u8], stored: usize, coun
     requires stored_in_bounds { at + count * stored ≤ length segment.old }
     ensures { segment.new ≡ put at s.now segment.old }
 {
-    let mut left = count;
-    let mut i: usize = 0;
-    let mut a = at;
-    while 0 < left {
-        let j = i + stored;
-        let e = a + stored;
-        words::copy(&mut segment[a..e], &s[i..j]);
-        i = j;
-        a = e;
-        left -= 1;
+    for i in 0..count {
+        let from = i * stored;
+        let to = at + from;
+        words::copy(&mut segment[to..to + stored], &s[from..from + stored]);
     }
 }

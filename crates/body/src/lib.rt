@@ -2,41 +2,35 @@
 #![tactic(auto)]
 
 ghost use Rattle.std.specs.Prelude.{◌*◌};
-ghost use Rattle.guard.specs.Table.{Right};
 ghost use Rattle.judge.specs.Judge.{Run};
-ghost use Rattle.sheet.specs.Sheet.{Printed, Room};
+ghost use Rattle.sheet.specs.Sheet.{PrintedLines, Room};
 ghost use Rattle.body.specs.Body.{block_lines};
 
+use guard::Table;
 use interval::{Place, Rules};
-use sheet::Sheet;
+use sheet::Counts;
+use writing::Pen;
 
 // Prints the lines of `count` blocks.
 pub fn print_blocks(
-    t: &[u16; 256],
+    t: &Table,
     r: Rules,
     p: Place,
     count: usize,
     s: &[u8],
-    out: &mut [u8],
-    sheet: Sheet,
-) -> Sheet
-    requires right { Right t.now }
+    pen: &mut Pen,
+    counts: &mut Counts,
+)
     requires run { Run r count p s.now }
-    requires room { Room sheet (count * r.intervals) }
-    ensures { Printed (block_lines r count p s.now) sheet out.old result out.new }
+    requires room { Room pen.old counts.old (count * r.intervals) }
+    ensures { PrintedLines (block_lines r count p s.now) pen.old counts.old pen.new counts.new }
 {
     let n = r.intervals;
-    let block = n * (r.size + 8);
-    let mut left = count;
+    let stored = n * (r.size + 8);
     let mut here = p;
-    let mut now = sheet;
-    let mut i: usize = 0;
-    while 0 < left {
-        let end = i + block;
-        now = paragraph::print_block(t, r, here, &s[i..end], out, now);
+    for k in 0..count {
+        let i = k * stored;
+        paragraph::print_block(t, r, here, &s[i..i + stored], pen, counts);
         here = judge::next_block(n, here);
-        i = end;
-        left -= 1;
     }
-    now
 }

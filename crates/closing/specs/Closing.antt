@@ -1,7 +1,6 @@
 -- "The listing program": the last line, and the one line of a refusal.
 use Rattle.std.specs.Prelude.{ℕ, List, [], ◌∷◌, ◌++◌}
-use Rattle.answer.specs.Answer.{number_of}
-use Rattle.answer.specs.declared.Answer.{Answer}
+use Rattle.answer.specs.Answer.{Answer, number_of}
 use Rattle.digits.specs.Digits.{decimal}
 
 -- `intervals `, `faults `, `skipped `

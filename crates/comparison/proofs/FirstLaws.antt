@@ -1,6 +1,6 @@
 -- Which block comparing names: the first that differs; and none where all are the same.
 -- Assumes nothing.
-use mathlib.Core.Path.{◌≡◌, refl, sym, ap, ap₂, ◌∙◌}
+use mathlib.Core.Path.{◌≡◌, refl, sym, ap, ◌∙◌}
 use mathlib.Core.Logic.{◌↔◌}
 use mathlib.Core.Bool.{Bool, true, false, cond, true≢false}
 use mathlib.Core.List.{List}
@@ -9,9 +9,8 @@ use native.Mathlib.Nat.{zero-mul, add-zero, not-suc-le-zero, le_of_suc-le-suc}
 use native.Mathlib.Omega.{arith}
 use lib.ListN.{take, drop}
 use Rattle.words.proofs.Parts.{drop_more}
-use Rattle.answer.specs.Answer.{is_good}
-use Rattle.answer.specs.declared.Answer.{Answer}
-use Rattle.answer.specs.declared.Answer.TheVariants as answers
+use Rattle.answer.specs.Answer.{is_good, Answer}
+use Rattle.answer.specs.Answer as answers
 use Rattle.answer.proofs.Ladder.{not_both}
 use Rattle.comparison.specs.Comparison.{same, compare_blocks}
 use Rattle.comparison.proofs.SameLaws.{same_itself, same_is}
@@ -41,14 +40,14 @@ module _ (each : ℕ) where
   from_first k x y e f (suc j) h = later x y j (f j (le_of_suc-le-suc h))
 
   -- good exactly when every block is the same
-  pub blocks_same : (k a : ℕ) (x y : List ℕ) → (compare_blocks each k a x y ≡ answers.Good) ↔ ((j : ℕ) → j < k → AlikeAt x y j)
+  pub blocks_same : (k a : ℕ) (x y : List ℕ) → (compare_blocks each k a x y ≡ answers.good) ↔ ((j : ℕ) → j < k → AlikeAt x y j)
   unfolding compare_blocks
   blocks_same zero a x y = (λ e j h. absurd (not-suc-le-zero h), λ f. refl)
   blocks_same (suc k) a x y = by (same (take each x) (take each y)) refl (blocks_same k (a + 1) (drop each x) (drop each y))
     where
       by : (g : Bool) → same (take each x) (take each y) ≡ g
-          → (compare_blocks each k (a + 1) (drop each x) (drop each y) ≡ answers.Good) ↔ ((j : ℕ) → j < k → AlikeAt (drop each x) (drop each y) j)
-          → (cond g (compare_blocks each k (a + 1) (drop each x) (drop each y)) (answers.BlockDiffers a) ≡ answers.Good) ↔ ((j : ℕ) → j < suc k → AlikeAt x y j)
+          → (compare_blocks each k (a + 1) (drop each x) (drop each y) ≡ answers.good) ↔ ((j : ℕ) → j < k → AlikeAt (drop each x) (drop each y) j)
+          → (cond g (compare_blocks each k (a + 1) (drop each x) (drop each y)) (answers.differs a) ≡ answers.good) ↔ ((j : ℕ) → j < suc k → AlikeAt x y j)
       by true g others =
           (λ e. from_first k x y (same_is _ _ g) (others.0 e), λ f. others.1 (λ j h. earlier x y j (f (suc j) (omega arith))))
       by false g others =
@@ -60,7 +59,7 @@ module _ (each : ℕ) where
     pub within : at < k
     pub before : (j : ℕ) → j < at → AlikeAt x y j
     pub here : AlikeAt x y at → ⊥
-    pub named : r ≡ answers.BlockDiffers (a + at)
+    pub named : r ≡ answers.differs (a + at)
 
   pub blocks_differ : (k a : ℕ) (x y : List ℕ) → is_good (compare_blocks each k a x y) ≡ false → FirstDiffers k a x y (compare_blocks each k a x y)
   unfolding compare_blocks
@@ -69,7 +68,7 @@ module _ (each : ℕ) where
     where
       by : (g : Bool) → same (take each x) (take each y) ≡ g → let others = compare_blocks each k (a + 1) (drop each x) (drop each y) in
           (is_good others ≡ false → FirstDiffers k (a + 1) (drop each x) (drop each y) others)
-          → is_good (cond g others (answers.BlockDiffers a)) ≡ false → FirstDiffers (suc k) a x y (cond g others (answers.BlockDiffers a))
+          → is_good (cond g others (answers.differs a)) ≡ false → FirstDiffers (suc k) a x y (cond g others (answers.differs a))
       by true g f w =
           let d = f w in
           let moved : a + 1 + d.at ≡ a + suc d.at = omega arith in
@@ -78,7 +77,7 @@ module _ (each : ℕ) where
             within = omega (arith, d.within);
             before = from_first d.at x y (same_is _ _ g) d.before;
             here = λ e. d.here (earlier x y d.at e);
-            named = d.named ∙ ap answers.BlockDiffers moved;
+            named = d.named ∙ ap answers.differs moved;
           }
       by false g f w =
           record {
@@ -86,5 +85,5 @@ module _ (each : ℕ) where
             within = omega arith;
             before = λ j h. absurd (not-suc-le-zero h);
             here = λ e. not_same _ _ g (first_is x y e);
-            named = ap answers.BlockDiffers (sym (add-zero a));
+            named = ap answers.differs (sym (add-zero a));
           }

@@ -1,7 +1,7 @@
 -- The laws of the pieces that are compared, and of one turn of comparing: pieces, blocks.
 -- Assumes nothing.
-use mathlib.Core.Path.{◌≡◌, refl, sym, ap, ap₂, ◌∙◌}
-use mathlib.Core.Bool.{Bool, true, false, ◌&&◌, cond}
+use mathlib.Core.Path.{◌≡◌, refl, ap, ◌∙◌}
+use mathlib.Core.Bool.{Bool, true, ◌&&◌, cond}
 use mathlib.Core.List.{List, [], ◌++◌}
 use Prim.Native.Nat.{ℕ, zero, suc, ◌+◌, ◌-◌, ◌*◌, ◌<◌, ◌≤◌}
 use native.Mathlib.Nat.{le_trans}
@@ -13,8 +13,8 @@ use Rattle.words.proofs.Parts.{one_more}
 use Rattle.words.proofs.Runs.{runs_two}
 use Rattle.words.proofs.Turns.{after_same}
 use Rattle.blocks.proofs.Pieces.{runs_length, runs_behind}
-use Rattle.answer.specs.declared.Answer.{Answer}
-use Rattle.answer.specs.declared.Answer.TheVariants as answers
+use Rattle.answer.specs.Answer.{Answer}
+use Rattle.answer.specs.Answer as answers
 use Rattle.comparison.specs.declared.Cut.{Cut}
 use Rattle.comparison.specs.Comparison.{same, compare_blocks}
 use Rattle.comparison.specs.Inner.{parts_of}
@@ -63,7 +63,7 @@ module _ (k : Cut) where
       → compare_blocks (k.pieces * k.size) n a (parts_of k (n * k.pieces) x) y
       ≡ cond g
       (compare_blocks (k.pieces * k.size) (n - 1) (a + 1) (parts_of k ((n - 1) * k.pieces) (drop (k.pieces * k.stride) x)) (drop (k.pieces * k.size) y))
-      (answers.BlockDiffers a)
+      (answers.differs a)
   unfolding compare_blocks
   block_turn zero a x y g h s l e = absurd (omega arith)
   block_turn (suc n) a x y g h s l e =
@@ -74,7 +74,7 @@ module _ (k : Cut) where
       let two : parts_of k (suc n * k.pieces) x ≡ first ++ others = ap (λ (m : ℕ). parts_of k m x) (one_more n k.pieces) ∙ parts_two k.pieces (n * k.pieces) x in
       rw (down, e, two, take_at first others (k.pieces * k.size) long, drop_at first others (k.pieces * k.size) long)
 
-pub blocks_end : (each n a : ℕ) (x y : List ℕ) → n ≤ 0 → answers.Good ≡ compare_blocks each n a x y
+pub blocks_end : (each n a : ℕ) (x y : List ℕ) → n ≤ 0 → answers.good ≡ compare_blocks each n a x y
 unfolding compare_blocks
 blocks_end each zero a x y h = refl
 blocks_end each (suc n) a x y h = absurd (omega arith)

@@ -10,7 +10,7 @@ use borrow.Author.Tests.{eq-eqb, ne_eqb, eqb-true, eqb-false}
 use lib.Dec.{eqb}
 use lib.ListN.{length}
 use Rattle.segment.specs.declared.Description.{Description}
-use Rattle.segment.specs.Segment.{Segment, intervals_of, size_of, stored_of, length_of}
+use Rattle.segment.specs.Segment.{IsSegment, intervals_of, size_of, stored_of, length_of}
 use Rattle.segment.proofs.Laws.{sizes, stored_intervals}
 use Rattle.command.specs.declared.Command.{Command}
 use Rattle.interval.specs.declared.Rules.{Rules}
@@ -22,15 +22,17 @@ use Rattle.segment.proofs.Places.{span_all}
 use Rattle.rules.specs.Rules.{rules_of, start_of}
 use Rattle.rules.specs.ReadAll.{read_all}
 use Rattle.rules.proofs.Laws.{side_run}
-use Rattle.sheet.specs.declared.Sheet.{Sheet}
-use Rattle.sheet.specs.Sheet.{Printed, Room}
+use Rattle.writing.specs.declared.Pen.{Pen}
+use Rattle.sheet.specs.declared.Counts.{Counts}
+use Rattle.sheet.specs.Sheet.{PrintedLines, Room}
 use Rattle.body.specs.Body.{block_lines}
-use Rattle.sheet.proofs.SheetLaws.{sheet, printed_none, printed_as, room_next, room_less, first_room}
+use Rattle.sheet.proofs.SheetLaws.{lines_as, counts, room_next, room_less, first_room}
+use Rattle.sheet.proofs.SheetLaws as sheets
 use Rattle.body.proofs.BlockLaws.{blocks_length}
 use Rattle.contents.specs.Contents.{lines_of}
 
 -- ---- the lines of a segment
-module _ (d : Description) (s : List ℕ) (g : Segment d) (long : length_of d ≡ length s) where
+module _ (d : Description) (s : List ℕ) (g : IsSegment d) (long : length_of d ≡ length s) where
   pub segment_run : (d.kind ≡ 0 → ⊥) → Run (rules_of Stored d (read_all d)) d.count (start_of d (read_all d)) s
   unfolding sixteen
   segment_run n = side_run Stored d (read_all d) d.count s g n g.count g.end (sym long ∙ sym (span_all d))
@@ -48,8 +50,8 @@ module _ (d : Description) (s : List ℕ) (g : Segment d) (long : length_of d �
   unfolding lines_of
   lines_none e = rw (eq-eqb d.kind 0 e)
 
-  pub lines_plain : {t : Sheet} {out : List ℕ} → d.kind ≡ 0 → Printed (lines_of d s) t out t out
-  lines_plain {t} {out} e = rw (lines_none e) (printed_none t out)
+  pub lines_plain : {p : Pen} {c : Counts} → d.kind ≡ 0 → PrintedLines (lines_of d s) p c p c
+  lines_plain {p} {c} e = rw (lines_none e) (sheets.lines_none p c)
 
   pub lines_are : (d.kind ≡ 0 → ⊥) → lines_of d s ≡ block_lines (rules_of Stored d (read_all d)) d.count (start_of d (read_all d)) s
   unfolding lines_of
@@ -65,11 +67,11 @@ module _ (d : Description) (s : List ℕ) (g : Segment d) (long : length_of d �
     pub blocks_run : Run r d.count p s
     blocks_run = rw (rules_are, start_is) (segment_run n)
 
-    pub blocks_room : {t : Sheet} → Room t (length s) → Room t (d.count * r.intervals)
+    pub blocks_room : {q : Pen} {k : Counts} → Room q k (length s) → Room q k (d.count * r.intervals)
     blocks_room room = rw rules_are (room_less _ _ (omega (arith, lines_few n)) room)
 
-    pub blocks_printed : {t u : Sheet} {out left : List ℕ} → Printed (block_lines r d.count p s) t out u left → Printed (lines_of d s) t out u left
-    blocks_printed w = printed_as (ap₂ (λ (x : Rules) (y : Place). block_lines x d.count y s) rules_are start_is ∙ sym (lines_are n)) w
+    pub blocks_printed : {q z : Pen} {k l : Counts} → PrintedLines (block_lines r d.count p s) q k z l → PrintedLines (lines_of d s) q k z l
+    blocks_printed w = lines_as (ap₂ (λ (x : Rules) (y : Place). block_lines x d.count y s) rules_are start_is ∙ sym (lines_are n)) w
 
   pub lines_length : length (lines_of d s) * 9 ≤ length s
   lines_length = by (eqb d.kind 0) refl
@@ -81,7 +83,7 @@ module _ (d : Description) (s : List ℕ) (g : Segment d) (long : length_of d �
           rw (lines_are n, blocks_length (rules_of Stored d (read_all d)) d.count (start_of d (read_all d)) s) (lines_few n)
 
   -- the place after the lines
-  pub lines_end : {at : ℕ} {u : Sheet} {o left : List ℕ} → at ≤ 2 ^ 16 → length s ≤ 65536 → Printed (lines_of d s) (sheet at 0 0 0) o u left → u.at ≤ 2 ^ 31
-  lines_end {at} {u} small few w =
-      let room : Room (sheet at 0 0 0) (length (lines_of d s) + 0) = first_room at _ small (omega (arith, lines_length)) in
+  pub lines_end : {p q : Pen} {c : Counts} → p.at ≤ 2 ^ 16 → length s ≤ 65536 → PrintedLines (lines_of d s) p (counts 0 0 0) q c → q.at ≤ 2 ^ 31
+  lines_end {p} small few w =
+      let room : Room p (counts 0 0 0) (length (lines_of d s) + 0) = first_room p _ small (omega (arith, lines_length)) in
       omega (arith, (room_next 0 room w).at)

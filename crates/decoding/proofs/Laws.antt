@@ -1,8 +1,9 @@
 -- The laws of commands: what each form has room for, once for all four, and what a decoded command is within.
 -- Assumes nothing.
+use Rattle.std.specs.Prelude.{Option, Some, None, Ok, Err}
 use mathlib.Core.Path.{◌≡◌, refl, sym, ◌∙◌}
 use mathlib.Core.Bool.{Bool, true, false, not, ◌&&◌, cond}
-use mathlib.Core.List.{List, [], ◌∷◌}
+use mathlib.Core.List.{List}
 use Prim.Native.Nat.{ℕ, ◌+◌, ◌/◌, ◌^◌, ◌≤◌, ◌<◌}
 use native.Mathlib.Nat.{lt_of_lt_of_le, pow-le-pow_right}
 use native.Mathlib.Omega.{arith}
@@ -19,15 +20,14 @@ use Rattle.answer.specs.declared.Reason.{Reason}
 use Rattle.answer.specs.declared.Reason.TheVariants as reasons
 use Rattle.command.specs.declared.Operation.{Operation}
 use Rattle.command.specs.declared.Operation.TheVariants.{Read, Write, Verify}
+use Rattle.command.specs.declared.Tags.{Tags}
 use Rattle.command.specs.declared.Command.{Command}
+use Rattle.command.specs.Tags.{reference_in, application_in, mask_in, tag_of, application_of, mask_of}
 use Rattle.command.specs.Sixteen.{sixteen}
 use Rattle.decoding.specs.declared.Form.{Form}
 use Rattle.decoding.specs.declared.Form.TheVariants.{Ten, Twelve, Sixteen, ThirtyTwo}
-use Rattle.decoding.specs.declared.Named.{Named}
-use Rattle.decoding.specs.declared.Named.TheVariants.{Known, Unknown}
 use Rattle.decoding.specs.declared.Layout.{Layout}
-use Rattle.decoding.specs.declared.Decoded.TheVariants.{Served, Refused}
-use Rattle.decoding.specs.Commands.{check_bits, Row, byte_zero, service_action, find, recognise, layout_of, is_long, fields, decode_as, decode}
+use Rattle.decoding.specs.Commands.{check_bits, byte_zero, service_action, find, recognise, layout_of, is_long, tags, fields, decode_as, decode, Named}
 
 -- ---- the sizes of the four forms
 
@@ -51,18 +51,7 @@ laid_within f e h = rw (e, h) (within f)
 
 -- ---- the rows of the table
 
--- A, and v is not the value of any row
-abbrev pub Beside : Type 0 → ℕ → List Row → Type 0
-Beside A v [] = A
-Beside A v (r ∷ rs) = Beside (A × (v ≡ r.value → ⊥)) v rs
-
-pub none : (A : Type 0) (v : ℕ) (rs : List Row) → Beside A v rs → A × (find v rs ≡ Unknown reasons.OperationInvalid)
-none A v [] a = (a, refl)
-none A v (r ∷ rs) b =
-    let rest = none (A × (v ≡ r.value → ⊥)) v rs b in
-    (rest.0.0, rw (ne_eqb v r.value rest.0.1) rest.1)
-
-pub recognise_empty : (c : List ℕ) → length c ≡ 0 → recognise c ≡ Unknown reasons.CommandLengthWrong
+pub recognise_empty : (c : List ℕ) → length c ≡ 0 → recognise c ≡ Err reasons.CommandLengthWrong
 unfolding recognise
 recognise_empty c h = rw (eq-eqb (length c) 0 h)
 
@@ -71,7 +60,7 @@ module _ (c : List ℕ) (some : length c ≡ 0 → ⊥) where
   unfolding recognise
   recognise_byte n = rw (ne_eqb (length c) 0 some, ne_eqb (get_or c 0 0) 0x7F n)
 
-  pub recognise_short : get_or c 0 0 ≡ 0x7F → length c < 10 → recognise c ≡ Unknown reasons.CommandLengthWrong
+  pub recognise_short : get_or c 0 0 ≡ 0x7F → length c < 10 → recognise c ≡ Err reasons.CommandLengthWrong
   unfolding recognise
   recognise_short e h = rw (ne_eqb (length c) 0 some, eq-eqb (get_or c 0 0) 0x7F e, lt-ltb (length c) 10 h)
 
@@ -80,54 +69,51 @@ module _ (c : List ℕ) (some : length c ≡ 0 → ⊥) where
   recognise_action e h = rw (ne_eqb (length c) 0 some, eq-eqb (get_or c 0 0) 0x7F e, le-ltb (length c) 10 h)
 
 -- ---- the fields
-pub asked : (o : Operation) (f : Form) (c : List ℕ) {l : Layout} {long : Bool} {k a n t p m : ℕ} → l ≡ layout_of f → long ≡ is_long f
+pub asked : (o : Operation) (f : Form) (c : List ℕ) {l : Layout} {k a n : ℕ} {t : Option Tags} → l ≡ layout_of f
     → k ≡ check_bits o (get_or c l.protect 0)
     → a ≡ number_at l.address l.addressed c → n ≡ number_at l.length l.lengthened c
-    → t ≡ cond long (number_at 20 4 c) 0 → p ≡ cond long (number_at 24 2 c) 0 → m ≡ cond long (number_at 26 2 c) 0
+    → t ≡ tags f c
     → record {
       operation = o;
-      long = long;
       code = get_or c l.protect 0 / 32;
       check = k;
       address = a;
       length = n;
-      tag = t;
-      application = p;
-      mask = m;
+      tags = t;
     } ≡ fields o f c
 unfolding fields
-asked o f c el es ek ea en et ep em = rw (ek, ea, en, et, ep, em, el, es)
+asked o f c el ek ea en et = rw (ek, ea, en, et, el)
 
 -- ---- the refusals
 module _ (o : Operation) (f : Form) (c : List ℕ) where
-  pub decode_length : (length c ≡ (layout_of f).bytes → ⊥) → decode_as o f c ≡ Refused reasons.CommandLengthWrong
+  pub decode_length : (length c ≡ (layout_of f).bytes → ⊥) → decode_as o f c ≡ Err reasons.CommandLengthWrong
   unfolding decode_as
   decode_length n = rw (ne_eqb (length c) (layout_of f).bytes n)
 
-  pub decode_field : length c ≡ (layout_of f).bytes → is_long f ≡ true → (get_or c 7 0 ≡ 0x18 → ⊥) → decode_as o f c ≡ Refused reasons.FieldInvalid
+  pub decode_field : length c ≡ (layout_of f).bytes → is_long f ≡ true → (get_or c 7 0 ≡ 0x18 → ⊥) → decode_as o f c ≡ Err reasons.FieldInvalid
   unfolding decode_as
   decode_field e l n = rw (eq-eqb (length c) (layout_of f).bytes e, l, ne_eqb (get_or c 7 0) 0x18 n)
 
-  pub decode_served : length c ≡ (layout_of f).bytes → (is_long f ≡ true → get_or c 7 0 ≡ 0x18) → decode_as o f c ≡ Served (fields o f c)
+  pub decode_served : length c ≡ (layout_of f).bytes → (is_long f ≡ true → get_or c 7 0 ≡ 0x18) → decode_as o f c ≡ Ok (fields o f c)
   unfolding decode_as
   decode_served e h = rw (eq-eqb (length c) (layout_of f).bytes e, unwrong (is_long f) (get_or c 7 0) 0x18 h)
 
 module _ (c : List ℕ) where
-  pub decode_known : {o : Operation} {f : Form} → recognise c ≡ Known o f → decode c ≡ decode_as o f c
+  pub decode_known : {o : Operation} {f : Form} → recognise c ≡ Ok (o, f) → decode c ≡ decode_as o f c
   unfolding decode
   decode_known e = rw e
 
-  pub decode_unknown : {a : Reason} → recognise c ≡ Unknown a → decode c ≡ Refused a
+  pub decode_unknown : {a : Reason} → recognise c ≡ Err a → decode c ≡ Err a
   unfolding decode
   decode_unknown e = rw e
 
 -- ---- what a decoded command is within
-served_is : (b₁ b₂ : Bool) (x k : Command) → cond b₁ (Refused reasons.CommandLengthWrong) (cond b₂ (Refused reasons.FieldInvalid) (Served x)) ≡ Served k → x ≡ k
+served_is : (b₁ b₂ : Bool) (x k : Command) → cond b₁ (Err reasons.CommandLengthWrong) (cond b₂ (Err reasons.FieldInvalid) (Ok x)) ≡ Ok k → x ≡ k
 served_is true b₂ x k e = cc
 served_is false true x k e = cc
 served_is false false x k e = cc
 
-pub served_fields : (o : Operation) (f : Form) (c : List ℕ) (k : Command) → decode_as o f c ≡ Served k → fields o f c ≡ k
+pub served_fields : (o : Operation) (f : Form) (c : List ℕ) (k : Command) → decode_as o f c ≡ Ok k → fields o f c ≡ k
 unfolding decode_as
 served_fields o f c k h =
     served_is (not (eqb (length c) (layout_of f).bytes)) (is_long f && not (eqb (get_or c 7 0) 0x18)) (fields o f c) k h
@@ -138,9 +124,9 @@ number_below at w most c h p =
     lt_of_lt_of_le (number_lt (take w (drop at c)) (part_bytes at w c p))
     (pow-le-pow_right (lit< tt) {i = length (take w (drop at c))} {j = most} (simp length-take (omega arith)))
 
-tag_below : (b : Bool) (x n : ℕ) → x < n → cond b x 0 < n
-tag_below true x n h = h
-tag_below false x n h = omega arith
+tag_below : (part : Option Tags → ℕ) (b : Bool) (t : Tags) (n : ℕ) → part (Some t) < n → part None < n → part (cond b (Some t) None) < n
+tag_below part true t n h z = h
+tag_below part false t n h z = z
 
 check_below : (o : Operation) (p : ℕ) → check_bits o p < 4
 check_below Read p = lit< tt
@@ -152,9 +138,9 @@ pub record Bounded (k : Command) : Type 0 where
   pub check : k.check < 4
   pub address : k.address < 2 ^ 64
   pub length : k.length < 2 ^ 32
-  pub tag : k.tag < 2 ^ 32
-  pub application : k.application < 2 ^ 16
-  pub mask : k.mask < 2 ^ 16
+  pub tag : tag_of k < 2 ^ 32
+  pub application : application_of k < 2 ^ 16
+  pub mask : mask_of k < 2 ^ 16
 
 fields_bounded : (o : Operation) (f : Form) (c : List ℕ) → Bytes c → Bounded (fields o f c)
 unfolding fields
@@ -165,18 +151,18 @@ fields_bounded o f c p =
       check = check_below o _;
       address = number_below _ _ 8 c (within f).addressed p;
       length = number_below _ _ 4 c (within f).lengthened p;
-      tag = tag_below (is_long f) _ _ (number_below 20 4 4 c (lit≤ tt) p);
-      application = tag_below (is_long f) _ _ (number_below 24 2 2 c (lit≤ tt) p);
-      mask = tag_below (is_long f) _ _ (number_below 26 2 2 c (lit≤ tt) p);
+      tag = tag_below reference_in (is_long f) _ _ (number_below 20 4 4 c (lit≤ tt) p) (lit< tt);
+      application = tag_below application_in (is_long f) _ _ (number_below 24 2 2 c (lit≤ tt) p) (lit< tt);
+      mask = tag_below mask_in (is_long f) _ _ (number_below 26 2 2 c (lit≤ tt) p) (lit< tt);
     }
 
-bounded_by : (c : List ℕ) (k : Command) (n : Named) → recognise c ≡ n → decode c ≡ Served k → Bytes c → Bounded k
-bounded_by c k (Known o f) e h p = rw (served_fields o f c k (sym (decode_known c e) ∙ h)) at (fields_bounded o f c p)
-bounded_by c k (Unknown a) e h p =
+bounded_by : (c : List ℕ) (k : Command) (n : Named) → recognise c ≡ n → decode c ≡ Ok k → Bytes c → Bounded k
+bounded_by c k (Ok (o, f)) e h p = rw (served_fields o f c k (sym (decode_known c e) ∙ h)) at (fields_bounded o f c p)
+bounded_by c k (Err a) e h p =
     let never = decode_unknown c e in
     let z : ◌≡◌ {A = ℕ} 0 1 = cc in absurd (omega arith)
 
-pub served_bounded : (c : List ℕ) (k : Command) → decode c ≡ Served k → Bytes c → Bounded k
+pub served_bounded : (c : List ℕ) (k : Command) → decode c ≡ Ok k → Bytes c → Bounded k
 served_bounded c k h p = bounded_by c k (recognise c) refl h p
 
 -- the fields of a 16-byte command with code 001 and byte-check bits 0

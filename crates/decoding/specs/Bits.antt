@@ -1,8 +1,7 @@
 -- "No other bit changes an answer.": which bits do.
-use Rattle.std.specs.Prelude.{ℕ, ◌/◌, true, List, ◌≡◌, length, get_or, take, drop}
+use Rattle.std.specs.Prelude.{ℕ, ◌/◌, true, List, ◌≡◌, length, get_or, take, drop, Ok}
 use Rattle.command.specs.declared.Operation.{Operation}
 use Rattle.decoding.specs.declared.Form.{Form}
-use Rattle.decoding.specs.declared.Named.TheVariants.{Known}
 use Rattle.decoding.specs.Commands.{recognise, layout_of, is_long, check_bits}
 
 -- n bytes from `at` on are the same in two commands
@@ -28,4 +27,4 @@ pub record SameCommand (c c' : List ℕ) : Type 0 where
   pub long : length c ≡ length c'
   pub zeroth : get_or c 0 0 ≡ get_or c' 0 0
   pub action : get_or c 0 0 ≡ 0x7F → SameAt 8 2 c c'
-  pub columns : (o : Operation) (f : Form) → recognise c ≡ Known o f → SameColumns o f c c'
+  pub columns : (o : Operation) (f : Form) → recognise c ≡ Ok (o, f) → SameColumns o f c c'

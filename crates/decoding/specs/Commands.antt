@@ -1,17 +1,22 @@
 -- "Commands": from a command's bytes to what it asks, or the refusal.
-use Rattle.std.specs.Prelude.{ℕ, ◌/◌, ◌%◌, Bool, true, false, not, ◌&&◌, cond, List, [], ◌∷◌, eqb, ltb, length, get_or}
+use Rattle.answer.specs.declared.Reason.{Reason}
+use Rattle.std.specs.Prelude.{ℕ, ◌/◌, ◌%◌, Bool, true, false, not, ◌&&◌, cond, List, [], ◌∷◌, eqb, ltb, length, get_or, Option, Some, None, Result, Ok, Err}
 use Rattle.words.specs.BigEndian.{number_at}
 use Rattle.answer.specs.declared.Reason.TheVariants as reasons
 use Rattle.command.specs.declared.Operation.{Operation}
 use Rattle.command.specs.declared.Operation.TheVariants.{Read, Write, Verify}
+use Rattle.command.specs.declared.Tags.{Tags}
 use Rattle.command.specs.declared.Command.{Command}
 use Rattle.decoding.specs.declared.Form.{Form}
 use Rattle.decoding.specs.declared.Form.TheVariants.{Ten, Twelve, Sixteen, ThirtyTwo}
-use Rattle.decoding.specs.declared.Named.{Named}
-use Rattle.decoding.specs.declared.Named.TheVariants.{Known, Unknown}
 use Rattle.decoding.specs.declared.Layout.{Layout}
-use Rattle.decoding.specs.declared.Decoded.{Decoded}
-use Rattle.decoding.specs.declared.Decoded.TheVariants.{Served, Refused}
+
+-- what is named, and what is decoded; or why nothing is
+abbrev pub Named : Type 0
+Named = Result (Operation × Form) Reason
+
+abbrev pub Decoded : Type 0
+Decoded = Result Command Reason
 
 -- The table's operations: byte 0 of the three shorter forms, the service action of the longest.
 pub record Row : Type 0 where
@@ -34,15 +39,15 @@ service_action = row 0x0009 Read ThirtyTwo ∷ row 0x000B Write ThirtyTwo ∷ ro
 
 -- the row of a value, or "not served 5"
 abbrev pub find : ℕ → List Row → Named
-find v [] = Unknown reasons.OperationInvalid
-find v (r ∷ rs) = cond (eqb v r.value) (Known r.operation r.form) (find v rs)
+find v [] = Err reasons.OperationInvalid
+find v (r ∷ rs) = cond (eqb v r.value) (Ok (r.operation, r.form)) (find v rs)
 
 -- "empty command 3; byte 0 not served 5; for 7Fh, fewer than 10 bytes 3, service action not served 5"
 unfoldable pub recognise : List ℕ → Named
 recognise c =
-    cond (eqb (length c) 0) (Unknown reasons.CommandLengthWrong)
+    cond (eqb (length c) 0) (Err reasons.CommandLengthWrong)
     (cond (eqb (get_or c 0 0) 0x7F)
-    (cond (ltb (length c) 10) (Unknown reasons.CommandLengthWrong) (find (number_at 8 2 c) service_action))
+    (cond (ltb (length c) 10) (Err reasons.CommandLengthWrong) (find (number_at 8 2 c) service_action))
     (find (get_or c 0 0) byte_zero))
 
 -- The table's columns: bytes, where the address and the length stand and how many bytes each has, the protect byte.
@@ -75,32 +80,33 @@ check_bits Read p = 0
 check_bits Write p = 0
 check_bits Verify p = p / 2 % 4
 
--- protect code in bits 7-5 of the protect byte; "expected first reference tag in 20-23, expected application tag in 24-25,
--- application mask in 26-27" of the 32-byte form
+-- "expected first reference tag in 20-23, expected application tag in 24-25, application mask in 26-27" of the 32-byte form
+abbrev pub tags : Form → List ℕ → Option Tags
+tags f c =
+    cond (is_long f) (Some (record { reference = number_at 20 4 c; application = number_at 24 2 c; mask = number_at 26 2 c })) None
+
+-- protect code in bits 7-5 of the protect byte
 unfoldable pub fields : Operation → Form → List ℕ → Command
 fields o f c =
     let l = layout_of f in
     record {
       operation = o;
-      long = is_long f;
       code = get_or c l.protect 0 / 32;
       check = check_bits o (get_or c l.protect 0);
       address = number_at l.address l.addressed c;
       length = number_at l.length l.lengthened c;
-      tag = cond (is_long f) (number_at 20 4 c) 0;
-      application = cond (is_long f) (number_at 24 2 c) 0;
-      mask = cond (is_long f) (number_at 26 2 c) 0;
+      tags = tags f c;
     }
 
 -- "length not the command's 3; byte 7 not 18h 6"
 unfoldable pub decode_as : Operation → Form → List ℕ → Decoded
 decode_as o f c =
-    cond (not (eqb (length c) (layout_of f).bytes)) (Refused reasons.CommandLengthWrong)
-    (cond (is_long f && not (eqb (get_or c 7 0) 0x18)) (Refused reasons.FieldInvalid) (Served (fields o f c)))
+    cond (not (eqb (length c) (layout_of f).bytes)) (Err reasons.CommandLengthWrong)
+    (cond (is_long f && not (eqb (get_or c 7 0) 0x18)) (Err reasons.FieldInvalid) (Ok (fields o f c)))
 
 abbrev decode_named : Named → List ℕ → Decoded
-decode_named (Known o f) c = decode_as o f c
-decode_named (Unknown r) c = Refused r
+decode_named (Ok (o, f)) c = decode_as o f c
+decode_named (Err r) c = Err r
 
 unfoldable pub decode : List ℕ → Decoded
 decode c = decode_named (recognise c) c

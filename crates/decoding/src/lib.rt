@@ -2,10 +2,10 @@
 #![tactic(auto)]
 
 ghost use Rattle.std.specs.Prelude.{◌≡◌, length};
-ghost use Rattle.decoding.specs.Commands.{byte_zero, service_action, find, check_bits, recognise, laid, layout_of, is_long, fields, decode_as, decode};
+ghost use Rattle.decoding.specs.Commands.{byte_zero, service_action, find, check_bits, recognise, laid, layout_of, is_long, tags, fields, decode_as, decode};
 
 use answer::Reason;
-use command::{Command, Operation};
+use command::{Command, Operation, Tags};
 
 // The four sizes of a command.
 #[derive(Clone, Copy)]
@@ -14,12 +14,6 @@ pub enum Form {
     Twelve,
     Sixteen,
     ThirtyTwo,
-}
-
-#[derive(Clone, Copy)]
-pub enum Named {
-    Known(Operation, Form),
-    Unknown(Reason),
 }
 
 // Where the fields of a form stand: its bytes, the address and the bytes it has, the length and the bytes it has, the
@@ -34,58 +28,54 @@ pub struct Layout {
     pub protect: usize,
 }
 
-#[derive(Clone, Copy)]
-pub enum Decoded {
-    Served(Command),
-    Refused(Reason),
-}
-
+// Kept: this and the next are two columns of the document's table, one of a byte and one of a number of two bytes.
 // The operation and the form that byte 0 names, of the three shorter forms.
-fn by_byte(first: u8) -> Named
+fn by_byte(first: u8) -> Result<(Operation, Form), Reason>
     ensures { result ≡ find first byte_zero }
 {
     match first {
-        0x28 => Named::Known(Operation::Read, Form::Ten),
-        0x2A => Named::Known(Operation::Write, Form::Ten),
-        0x2F => Named::Known(Operation::Verify, Form::Ten),
-        0xA8 => Named::Known(Operation::Read, Form::Twelve),
-        0xAA => Named::Known(Operation::Write, Form::Twelve),
-        0xAF => Named::Known(Operation::Verify, Form::Twelve),
-        0x88 => Named::Known(Operation::Read, Form::Sixteen),
-        0x8A => Named::Known(Operation::Write, Form::Sixteen),
-        0x8F => Named::Known(Operation::Verify, Form::Sixteen),
-        _ => Named::Unknown(Reason::OperationInvalid),
+        0x28 => Ok((Operation::Read, Form::Ten)),
+        0x2A => Ok((Operation::Write, Form::Ten)),
+        0x2F => Ok((Operation::Verify, Form::Ten)),
+        0xA8 => Ok((Operation::Read, Form::Twelve)),
+        0xAA => Ok((Operation::Write, Form::Twelve)),
+        0xAF => Ok((Operation::Verify, Form::Twelve)),
+        0x88 => Ok((Operation::Read, Form::Sixteen)),
+        0x8A => Ok((Operation::Write, Form::Sixteen)),
+        0x8F => Ok((Operation::Verify, Form::Sixteen)),
+        _ => Err(Reason::OperationInvalid),
     }
 }
 
 // And that the service action names, of the longest.
-fn by_action(action: u16) -> Named
+fn by_action(action: u16) -> Result<(Operation, Form), Reason>
     ensures { result ≡ find action service_action }
 {
     match action {
-        0x0009 => Named::Known(Operation::Read, Form::ThirtyTwo),
-        0x000B => Named::Known(Operation::Write, Form::ThirtyTwo),
-        0x000A => Named::Known(Operation::Verify, Form::ThirtyTwo),
-        _ => Named::Unknown(Reason::OperationInvalid),
+        0x0009 => Ok((Operation::Read, Form::ThirtyTwo)),
+        0x000B => Ok((Operation::Write, Form::ThirtyTwo)),
+        0x000A => Ok((Operation::Verify, Form::ThirtyTwo)),
+        _ => Err(Reason::OperationInvalid),
     }
 }
 
 // The operation and the form of a command.
-fn recognise(c: &[u8]) -> Named
+fn recognise(c: &[u8]) -> Result<(Operation, Form), Reason>
     ensures { result ≡ recognise c.now }
 {
     if c.len() == 0 {
-        return Named::Unknown(Reason::CommandLengthWrong);
+        return Err(Reason::CommandLengthWrong);
     }
     if c[0] != 0x7F {
         return by_byte(c[0]);
     }
     if c.len() < 10 {
-        return Named::Unknown(Reason::CommandLengthWrong);
+        return Err(Reason::CommandLengthWrong);
     }
     by_action(words::read2(c, 8))
 }
 
+// Kept: with it the rows below stand as in the document's table.
 fn laid(
     bytes: usize,
     address: usize,
@@ -122,12 +112,7 @@ fn layout_of(f: Form) -> Layout
 fn is_long(f: Form) -> bool
     ensures { result ≡ is_long f }
 {
-    match f {
-        Form::Ten => false,
-        Form::Twelve => false,
-        Form::Sixteen => false,
-        Form::ThirtyTwo => true,
-    }
+    matches!(f, Form::ThirtyTwo)
 }
 
 // The byte-check bits of the protect byte, which VERIFY alone has.
@@ -138,6 +123,22 @@ fn check_bits(o: Operation, protects: u8) -> u8
         Operation::Read => 0,
         Operation::Write => 0,
         Operation::Verify => protects / 2 % 4,
+    }
+}
+
+// The tags and the mask, which the longest form alone has.
+fn tags(f: Form, c: &[u8]) -> Option<Tags>
+    requires { length c.now ≡ (layout_of f).bytes }
+    ensures { result ≡ tags f c.now }
+{
+    if is_long(f) {
+        Some(Tags {
+            reference: words::read4(c, 20),
+            application: words::read2(c, 24),
+            mask: words::read2(c, 26),
+        })
+    } else {
+        None
     }
 }
 
@@ -152,54 +153,33 @@ fn fields(o: Operation, f: Form, c: &[u8]) -> Command
     let check = check_bits(o, protects);
     let address = words::read_at(c, l.address, l.addressed);
     let length = words::read_at(c, l.length, l.lengthened);
-    if is_long(f) {
-        return Command {
-            operation: o,
-            long: true,
-            code: protects / 32,
-            check,
-            address,
-            length,
-            tag: words::read4(c, 20),
-            application: words::read2(c, 24),
-            mask: words::read2(c, 26),
-        };
-    }
     Command {
         operation: o,
-        long: false,
         code: protects / 32,
         check,
         address,
         length,
-        tag: 0,
-        application: 0,
-        mask: 0,
+        tags: tags(f, c),
     }
 }
 
 // A command of a known operation and form.
-fn decode_as(o: Operation, f: Form, c: &[u8]) -> Decoded
+fn decode_as(o: Operation, f: Form, c: &[u8]) -> Result<Command, Reason>
     ensures { result ≡ decode_as o f c.now }
 {
-    let l = layout_of(f);
-    if c.len() != l.bytes {
-        return Decoded::Refused(Reason::CommandLengthWrong);
+    if c.len() != layout_of(f).bytes {
+        return Err(Reason::CommandLengthWrong);
     }
-    if is_long(f) {
-        if c[7] != 0x18 {
-            return Decoded::Refused(Reason::FieldInvalid);
-        }
+    if is_long(f) && c[7] != 0x18 {
+        return Err(Reason::FieldInvalid);
     }
-    Decoded::Served(fields(o, f, c))
+    Ok(fields(o, f, c))
 }
 
 // What a command's bytes ask for, or the refusal. Any bytes may be handed in, also no byte at all.
-pub fn decode(c: &[u8]) -> Decoded
+pub fn decode(c: &[u8]) -> Result<Command, Reason>
     ensures { result ≡ decode c.now }
 {
-    match recognise(c) {
-        Named::Known(o, f) => decode_as(o, f, c),
-        Named::Unknown(r) => Decoded::Refused(r),
-    }
+    let (o, f) = recognise(c)?;
+    decode_as(o, f, c)
 }

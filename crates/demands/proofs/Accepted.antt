@@ -13,12 +13,13 @@ use lib.ListN.{length, take, drop, length-drop}
 use lib.Seq.{drop_at}
 use Rattle.words.proofs.Choice.{never, unwrong}
 use Rattle.words.specs.Runs.{runs}
-use Rattle.answer.specs.declared.Answer.{Answer}
-use Rattle.answer.specs.declared.Answer.TheVariants as answers
+use Rattle.answer.specs.Answer.{Answer}
+use Rattle.answer.specs.Answer as answers
 use Rattle.segment.specs.declared.Description.{Description}
 use Rattle.segment.specs.Segment.{intervals_of, size_of}
 use Rattle.segment.specs.Places.{interval_at}
 use Rattle.command.specs.declared.Command.{Command}
+use Rattle.command.specs.Tags.{long, tag_of, application_of}
 use Rattle.interval.specs.declared.Rules.{Rules}
 use Rattle.interval.specs.declared.Place.{Place}
 use Rattle.interval.specs.declared.Escape.TheVariants.{Never}
@@ -43,10 +44,10 @@ use Rattle.demands.proofs.Wrong.{blocks_good}
 
 -- ---- pieces that are each judged good, one behind the other
 module _ {M : Type 0} (judge : Place → List ℕ → Answer) (next : Place → Place) (piece : M → List ℕ → List ℕ) (on : M → M) (P Q : ℕ) (F : Place → M → Type 0)
-    (each : (p : Place) (m : M) (s rest : List ℕ) → F p m → P ≤ length s → judge p (piece m s ++ rest) ≡ answers.Good)
+    (each : (p : Place) (m : M) (s rest : List ℕ) → F p m → P ≤ length s → judge p (piece m s ++ rest) ≡ answers.good)
     (long : (m : M) (s : List ℕ) → P ≤ length s → length (piece m s) ≡ Q) (go : (p : Place) (m : M) → F p m → F (next p) (on m)) where
   runs_right : (k : ℕ) (p : Place) (m : M) (s rest : List ℕ) → F p m → k * P ≤ length s
-      → first_of judge next Q k p (runs piece on P k m s ++ rest) ≡ answers.Good
+      → first_of judge next Q k p (runs piece on P k m s ++ rest) ≡ answers.good
   unfolding first_of runs
   runs_right zero p m s rest f h = refl
   runs_right (suc k) p m s rest f h =
@@ -65,7 +66,7 @@ record Fit (r : Rules) (p : Place) (m : Marks) : Type 0 where
   four_bytes : m.reference < 2 ^ 32
 
 module _ (r : Rules) where
-  field_right : (p : Place) (m : Marks) (d : List ℕ) → Fit r p m → judge_pieces r p d (field_bytes (guard d) m.application m.reference) ≡ answers.Good
+  field_right : (p : Place) (m : Marks) (d : List ℕ) → Fit r p m → judge_pieces r p d (field_bytes (guard d) m.application m.reference) ≡ answers.good
   unfolding guard_wrong application_wrong reference_wrong
   field_right p m d f =
       (pieces_verdict r p d _).good.1 (
@@ -74,7 +75,7 @@ module _ (r : Rules) where
         unwrong r.reference _ _ (λ o. reference_read_back _ _ m.reference f.four_bytes ∙ (f.reference o).0),
       )
 
-  interval_right : (p : Place) (m : Marks) (s rest : List ℕ) → Fit r p m → r.size ≤ length s → judge_interval r p (with_field r.size m s ++ rest) ≡ answers.Good
+  interval_right : (p : Place) (m : Marks) (s rest : List ℕ) → Fit r p m → r.size ≤ length s → judge_interval r p (with_field r.size m s ++ rest) ≡ answers.good
   unfolding judge_interval data_of
   interval_right p m s rest f h =
       ap₂ (judge_pieces r p) (interval_read_on r.size m s rest h)
@@ -90,12 +91,12 @@ module _ (r : Rules) where
         four_bytes = mod-lt (m.reference + k * m.step) (lit< tt);
       }
 
-  either : (b : Bool) (a : Answer) → a ≡ answers.Good → cond b answers.Good a ≡ answers.Good
+  either : (b : Bool) (a : Answer) → a ≡ answers.good → cond b answers.good a ≡ answers.good
   either true a e = refl
   either false a e = e
 
   block_right : (p : Place) (m : Marks) (s rest : List ℕ) → Fit r p m → r.intervals * r.size ≤ length s
-      → judge_block r p (stored_block r.size r.intervals m s ++ rest) ≡ answers.Good
+      → judge_block r p (stored_block r.size r.intervals m s ++ rest) ≡ answers.good
   unfolding judge_block judge_intervals stored_block
   block_right p m s rest f h =
       either (any_escapes r.escape r.size r.intervals (stored_block r.size r.intervals m s ++ rest)) _
@@ -103,7 +104,7 @@ module _ (r : Rules) where
       (λ q n g. fit_later 1 q.address (q.interval + 1) q n g) r.intervals p m s rest f h)
 
   inserted_right : (k : ℕ) (p : Place) (m : Marks) (s : List ℕ) → Fit r p m → k * (r.intervals * r.size) ≤ length s
-      → judge_blocks r k p (stored_blocks r.size r.intervals k m s) ≡ answers.Good
+      → judge_blocks r k p (stored_blocks r.size r.intervals k m s) ≡ answers.good
   unfolding judge_blocks stored_blocks
   inserted_right k p m s f h =
       rw append-nil at
@@ -133,29 +134,29 @@ small_of : (b : Bool) (x y n : ℕ) → x < n → y < n → cond b x y < n
 small_of true x y n p q = p
 small_of false x y n p q = q
 
-module _ (d : Description) (c : Command) (application : c.application < 65536) (tag : c.tag < 2 ^ 32) where
+module _ (d : Description) (c : Command) (application : application_of c < 65536) (tag : tag_of c < 2 ^ 32) where
   pub small_application : (marks_of d c).application < 65536
   unfolding marks_of inserted_application
-  small_application = small_of (eqb d.ato 0) _ _ 65536 (lit< tt) (small_of c.long _ _ 65536 application (lit< tt))
+  small_application = small_of (eqb d.ato 0) _ _ 65536 (lit< tt) (small_of (long c) _ _ 65536 application (lit< tt))
 
   pub small_reference : (marks_of d c).reference < 2 ^ 32
   unfolding marks_of inserted_reference
   small_reference =
       small_of (eqb d.kind 1) _ _ (2 ^ 32) (mod-lt c.address (lit< tt))
-      (small_of (eqb d.kind 2) _ _ (2 ^ 32) (small_of c.long _ _ (2 ^ 32) tag (mod-lt (c.address * intervals_of d) (lit< tt))) (lit< tt))
+      (small_of (eqb d.kind 2) _ _ (2 ^ 32) (small_of (long c) _ _ (2 ^ 32) tag (mod-lt (c.address * intervals_of d) (lit< tt))) (lit< tt))
 
   fit_start : Fit (rules_of Stored d (as_read c)) (start_of d (as_read c)) (marks_of d c)
   unfolding rules_of start_of marks_of inserted_application inserted_reference application_known reference_known first_tag
   fit_start =
       record {
-        application = fit_application (columns_of c.code).application c.long d.ato c.application;
-        reference = fit_reference (columns_of c.code).reference c.long d.kind (c.address % 2 ^ 32) c.tag (c.address * intervals_of d % 2 ^ 32);
+        application = fit_application (columns_of c.code).application (long c) d.ato (application_of c);
+        reference = fit_reference (columns_of c.code).reference (long c) d.kind (c.address % 2 ^ 32) (tag_of c) (c.address * intervals_of d % 2 ^ 32);
         two_bytes = small_application;
         four_bytes = small_reference;
       }
 
   pub inserted_accepted : (s : List ℕ) → c.length * (intervals_of d * size_of d) ≤ length s
-      → judge_blocks (rules_of Stored d (as_read c)) c.length (start_of d (as_read c)) (stored_blocks (size_of d) (intervals_of d) c.length (marks_of d c) s) ≡ answers.Good
+      → judge_blocks (rules_of Stored d (as_read c)) c.length (start_of d (as_read c)) (stored_blocks (size_of d) (intervals_of d) c.length (marks_of d c) s) ≡ answers.good
   unfolding rules_of
   inserted_accepted s h = inserted_right (rules_of Stored d (as_read c)) c.length (start_of d (as_read c)) (marks_of d c) s fit_start h
 
@@ -165,13 +166,13 @@ module _ (d : Description) (c : Command) (s : List ℕ) where
   unfolding rules_of escapes
   not_skipped j = ((any_none Never (size_of d) (intervals_of d) _).1 (λ i h. refl))
 
-  verdict_kept : (j i : ℕ) → verdict_at Sent d c s j i ≡ answers.Good → verdict_at Stored d (as_read c) s j i ≡ answers.Good
+  verdict_kept : (j i : ℕ) → verdict_at Sent d c s j i ≡ answers.good → verdict_at Stored d (as_read c) s j i ≡ answers.good
   unfolding rules_of judge_interval judge_pieces guard_wrong application_wrong reference_wrong first_tag application_known reference_known
   verdict_kept j i e =
       either (rules_of Sent d c) (skipped Stored d (as_read c) s j) _
-      (ap (λ (b : Bool). cond b answers.Good (judge_interval (rules_of Sent d c) (place_at d c j i) (interval_at d s j i))) (sym (not_skipped j)) ∙ e)
+      (ap (λ (b : Bool). cond b answers.good (judge_interval (rules_of Sent d c) (place_at d c j i) (interval_at d s j i))) (sym (not_skipped j)) ∙ e)
 
-  pub received_accepted : (k : ℕ) → first_tag d c < 2 ^ 32 → judge_blocks (rules_of Sent d c) k (start_of d c) s ≡ answers.Good
-      → judge_blocks (rules_of Stored d (as_read c)) k (start_of d (as_read c)) s ≡ answers.Good
+  pub received_accepted : (k : ℕ) → first_tag d c < 2 ^ 32 → judge_blocks (rules_of Sent d c) k (start_of d c) s ≡ answers.good
+      → judge_blocks (rules_of Stored d (as_read c)) k (start_of d (as_read c)) s ≡ answers.good
   received_accepted k small e =
       (blocks_good Stored d (as_read c) s (unfold first_tag in small) k).1 (λ j i h l. verdict_kept j i ((blocks_good Sent d c s small k).0 e j i h l))

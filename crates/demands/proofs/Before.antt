@@ -1,7 +1,8 @@
 -- A command that does not compare, as every READ, every WRITE and every VERIFY with other bits than 01b, is answered as before A1: the
 -- answer with its numbers, and every lent byte.
 -- Assumes nothing.
-use mathlib.Core.Path.{◌≡◌, refl, sym, ap, ap₂, ◌∙◌}
+use Rattle.std.specs.Prelude.{Ok, Err}
+use mathlib.Core.Path.{◌≡◌, refl, sym, ap, ◌∙◌}
 use mathlib.Core.Bool.{Bool, true, false, not, ◌&&◌, cond, true≢false}
 use mathlib.Core.List.{List}
 use Prim.Native.Nat.{ℕ, zero, suc}
@@ -9,35 +10,28 @@ use native.Mathlib.Omega.{arith}
 use borrow.Author.Tests.{lt-ltb}
 use lib.Dec.{eqb, ltb, eqb-suc-zero}
 use lib.ListN.{length}
-use Rattle.answer.specs.Answer.{is_good, or_else, refused_if}
-use Rattle.answer.specs.Outcome.{Outcome, outcome, leaving}
-use Rattle.answer.specs.declared.Answer.{Answer}
+use Rattle.answer.specs.Answer.{is_good, or_else, refused_if, Answer}
+use Rattle.answer.specs.Outcome.{outcome}
 use Rattle.answer.specs.declared.Reason.TheVariants as reasons
 use Rattle.answer.proofs.Ladder.{or_else_none}
 use Rattle.segment.specs.declared.Description.{Description}
 use Rattle.segment.specs.Rules.{segment_rules}
-use Rattle.segment.specs.Places.{range_rule}
 use Rattle.command.specs.declared.Command.{Command}
 use Rattle.command.specs.declared.Operation.{Operation}
 use Rattle.command.specs.declared.Operation.TheVariants.{Read, Write, Verify}
 use Rattle.command.specs.Compares.{is_verify, compares}
 use Rattle.command.proofs.CommandLaws.{other_bits, both_compare}
-use Rattle.decoding.specs.Commands.{decode}
-use Rattle.decoding.specs.declared.Decoded.{Decoded}
-use Rattle.decoding.specs.declared.Decoded.TheVariants as decoded
+use Rattle.decoding.specs.Commands.{decode, Decoded}
 use Rattle.decoding.proofs.Demands.{verify_alone_has_bits}
-use Rattle.judge.specs.Judge.{judge_blocks}
 use Rattle.sides.specs.declared.Side.{Side}
 use Rattle.sides.specs.declared.Side.TheVariants.{Sent, Stored}
 use Rattle.sides.specs.Sides.{checks_on, checked_on}
-use Rattle.rules.specs.Rules.{rules_of, start_of}
-use Rattle.refusal.specs.Refusal.{type_rules, code_rule, check_rule, moved_of, size_rule, buffer_of, buffer_rule, refusal}
-use Rattle.admission.specs.declared.Admitted.TheVariants.{Refused, Go}
-use Rattle.admission.specs.Admission.{admit_decoded, admitted}
+use Rattle.refusal.specs.Refusal.{check_rule, moved_of, buffer_of, buffer_rule, refusal}
+use Rattle.admission.specs.Admission.{behind, admit_decoded, admitted}
 use Rattle.transfer.specs.Transfer.{judged_on, judged, verdict}
 use Rattle.transfer.proofs.Comparing.{compared_none}
 use Rattle.execute.specs.Lent.{Lent, lengths_of}
-use Rattle.execute.specs.Execute.{under_check, moved, performed, executed_as, executed}
+use Rattle.execute.specs.Execute.{under_check, performed, executed_as, executed}
 use Rattle.demands.specs.BeforeA1 as former
 
 module _ (d : Description) (c : Command) (n : c.check ≡ 0b01 → ⊥) where
@@ -85,21 +79,21 @@ module _ (d : Description) (c : Command) (n : c.check ≡ 0b01 → ⊥) where
       rw (compared_none d c _ _ off, or_else_none (or_else (judged_on Sent d c (under_check Sent d c l)) (judged_on Stored d c (under_check Stored d c l))), judged_before Sent l, judged_before Stored l)
       refl
 
-  served_before : (l : Lent) → executed_as (admit_decoded d (decoded.Served c) (lengths_of l)) d l ≡ former.executed_as d (decoded.Served c) l
-  served_before l = rw (refusal_before l) (by (former.refusal d c (length l.buffer)) (is_good (former.refusal d c (length l.buffer))))
+  served_before : (l : Lent) → executed_as (admit_decoded d (Ok c) (lengths_of l)) d l ≡ former.executed_as d (Ok c) l
+  served_before l = rw (refusal_before l) (by (former.refusal d c (length l.buffer)))
     where
-      by : (a : Answer) (g : Bool) → executed_as (cond g (Go c) (Refused a)) d l ≡ cond g (former.performed d c l) (outcome a l)
-      by a true = performed_before l
-      by a false = refl
+      by : (a : Answer) → executed_as (behind a (Ok c)) d l ≡ cond (is_good a) (former.performed d c l) (outcome a l)
+      by (Ok u) = performed_before l
+      by (Err e) = refl
 
 -- ---- every command
-decoded_before : (d : Description) (r : Decoded) (l : Lent) → ((c : Command) → r ≡ decoded.Served c → c.check ≡ 0b01 → ⊥)
+decoded_before : (d : Description) (r : Decoded) (l : Lent) → ((c : Command) → r ≡ Ok c → c.check ≡ 0b01 → ⊥)
     → executed_as (admit_decoded d r (lengths_of l)) d l ≡ former.executed_as d r l
-decoded_before d (decoded.Served c) l n = served_before d c (n c refl) l
-decoded_before d (decoded.Refused r) l n = refl
+decoded_before d (Ok c) l n = served_before d c (n c refl) l
+decoded_before d (Err r) l n = refl
 
 -- a command that does not compare has other bits than 01b
-not_comparing : (command : List ℕ) (c : Command) → decode command ≡ decoded.Served c → compares c ≡ false → c.check ≡ 0b01 → ⊥
+not_comparing : (command : List ℕ) (c : Command) → decode command ≡ Ok c → compares c ≡ false → c.check ≡ 0b01 → ⊥
 not_comparing command c served off bits = by c.operation refl
   where
     none : (c.operation ≡ Verify → ⊥) → ⊥
@@ -111,12 +105,12 @@ not_comparing command c served off bits = by c.operation refl
     by Verify e = true≢false (sym (both_compare c e bits) ∙ off)
 
 -- every command that does not compare, whatever its bits are ("values 10b and 11b stay at 6"), is answered as before
-pub as_before : (d : Description) (command : List ℕ) (l : Lent) → ((c : Command) → decode command ≡ decoded.Served c → compares c ≡ false)
+pub as_before : (d : Description) (command : List ℕ) (l : Lent) → ((c : Command) → decode command ≡ Ok c → compares c ≡ false)
     → executed d command l ≡ former.executed d command l
 unfolding executed admitted former.executed
-as_before d command l off = by (is_good (segment_rules d (length l.segment)))
+as_before d command l off = by (segment_rules d (length l.segment))
   where
-    by : (g : Bool) → executed_as (cond g (admit_decoded d (decode command) (lengths_of l)) (Refused (segment_rules d (length l.segment)))) d l
-        ≡ cond g (former.executed_as d (decode command) l) (outcome (segment_rules d (length l.segment)) l)
-    by true = decoded_before d (decode command) l (λ c served. not_comparing command c served (off c served))
-    by false = refl
+    by : (a : Answer) → executed_as (behind a (admit_decoded d (decode command) (lengths_of l))) d l
+        ≡ cond (is_good a) (former.executed_as d (decode command) l) (outcome a l)
+    by (Ok u) = decoded_before d (decode command) l (λ c served. not_comparing command c served (off c served))
+    by (Err e) = refl

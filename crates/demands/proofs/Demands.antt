@@ -1,5 +1,6 @@
 -- Demands 1 and 2: what holds of every command's outcome, `executed`.
 -- Assumes nothing.
+use Rattle.std.specs.Prelude.{Ok, Err}
 use mathlib.Core.Path.{◌≡◌, refl, sym, ap, ap₂, ◌∙◌}
 use mathlib.Core.Logic.{◌↔◌, ◌⊎◌, inl, inr, ⊎_elim}
 use mathlib.Core.Bool.{Bool, true, false, not, ◌&&◌, cond, true≢false}
@@ -11,10 +12,9 @@ use borrow.Author.Tests.{eq-eqb, eqb-true, eqb-false, le-leb}
 use lib.Dec.{eqb, leb}
 use lib.ListN.{length}
 use Rattle.words.specs.Parts.{Bytes}
-use Rattle.answer.specs.Answer.{number_of, is_good, for_protection, for_difference, or_else, in_table}
+use Rattle.answer.specs.Answer.{number_of, is_good, for_protection, for_difference, or_else, in_table, Answer}
 use Rattle.answer.specs.Outcome.{Outcome, outcome, leaving}
-use Rattle.answer.specs.declared.Answer.{Answer}
-use Rattle.answer.specs.declared.Answer.TheVariants as answers
+use Rattle.answer.specs.Answer as answers
 use Rattle.answer.proofs.Demands.{in_table_lem, refused_leaves}
 use Rattle.answer.proofs.Ladder.{good_or, good_is, or_else_good}
 use Rattle.segment.specs.declared.Description.{Description}
@@ -29,7 +29,6 @@ use Rattle.command.specs.Compares.{is_verify, compares}
 use Rattle.command.proofs.CommandLaws.{not_verify}
 use Rattle.decoding.specs.Commands.{decode}
 use Rattle.decoding.specs.Bits.{SameCommand}
-use Rattle.decoding.specs.declared.Decoded.TheVariants.{Served}
 use Rattle.decoding.proofs.Laws.{Bounded, served_bounded}
 use Rattle.decoding.proofs.Demands.{same_command}
 use Rattle.interval.specs.Interval.{guard_wrong, application_wrong, reference_wrong, judge_interval}
@@ -44,9 +43,7 @@ use Rattle.rules.specs.Intervals.{place_at, verdict_at}
 use Rattle.rules.proofs.Places.{tag_small}
 use Rattle.refusal.specs.declared.Lengths.{Lengths}
 use Rattle.refusal.specs.Refusal.{long_rule, other_rule, plain_rule, type_rules, code_rule, check_rule, size_rule, moved_of, buffer_of, buffer_rule, refusal}
-use Rattle.admission.specs.declared.Admitted.{Admitted}
-use Rattle.admission.specs.declared.Admitted.TheVariants.{Refused, Go}
-use Rattle.admission.specs.Admission.{admitted}
+use Rattle.admission.specs.Admission.{behind, Decided, admitted}
 use Rattle.admission.specs.Ready.{Ready}
 use Rattle.admission.proofs.Ready.{admitted_served, admitted_ready}
 use Rattle.execute.specs.Lent.{Lent, lent, lengths_of}
@@ -127,14 +124,14 @@ module _ (d : Description) (c : Command) (l m : Lent) (e : blocks_of d c l.segme
       }
 
 -- ---- what a served command's admission can be
-abbrev Settled : Command → Admitted → Type 0
-Settled c (Refused a) = is_good a ≡ false
-Settled c (Go k) = k ≡ c
+abbrev Settled : Command → Decided → Type 0
+Settled c (Err e) = Unit {0}
+Settled c (Ok k) = k ≡ c
 
-settled : (c : Command) (x r : Answer) (s g : Bool) → is_good x ≡ s → is_good r ≡ g → Settled c (cond s (cond g (Go c) (Refused r)) (Refused x))
-settled c x r true true e f = refl
-settled c x r true false e f = f
-settled c x r false g e f = e
+settled : (c : Command) (x r : Answer) → Settled c (behind x (behind r (Ok c)))
+settled c (Ok u) (Ok v) = refl
+settled c (Ok u) (Err e) = tt
+settled c (Err e) r = tt
 
 module _ (d : Description) (command : List ℕ) (l : Lent) where
   -- every input gets an answer of the table
@@ -146,14 +143,14 @@ module _ (d : Description) (command : List ℕ) (l : Lent) where
   unfolding executed performed moved
   refused_leaves_all = by (admitted d (lengths_of l) command)
     where
-      by : (x : Admitted) → is_good (executed_as x d l).answer ≡ false → (executed_as x d l).left ≡ l
-      by (Refused a) w = refl
-      by (Go c) w = refused_leaves (ruling d c l) l (moved_for c.operation d c l) w
+      by : (x : Decided) → is_good (executed_as x d l).answer ≡ false → (executed_as x d l).left ≡ l
+      by (Err a) w = refl
+      by (Ok c) w = refused_leaves (ruling d c l) l (moved_for c.operation d c l) w
 
-  module _ (c : Command) (served : decode command ≡ Served c) where
+  module _ (c : Command) (served : decode command ≡ Ok c) where
     admitted_settled : Settled c (admitted d (lengths_of l) command)
     unfolding admitted
-    admitted_settled = rw served (settled c (segment_rules d (length l.segment)) (refusal d c (lengths_of l)) _ _ refl refl)
+    admitted_settled = rw served (settled c (segment_rules d (length l.segment)) (refusal d c (lengths_of l)))
 
     -- what holds where nothing was done, and of a transfer that was admitted, holds of the command's outcome
     pub served_outcome : (P : Outcome Lent → Type 0) → ((a : Answer) → is_good a ≡ false → P (outcome a l))
@@ -161,19 +158,19 @@ module _ (d : Description) (command : List ℕ) (l : Lent) where
     unfolding executed
     served_outcome P none some = by (admitted d (lengths_of l) command) refl admitted_settled
       where
-        by : (x : Admitted) → admitted d (lengths_of l) command ≡ x → Settled c x → P (executed_as x d l)
-        by (Refused a) e s = none a s
-        by (Go k) e s = rw s (some (rw s at (admitted_ready d (lengths_of l) command k e)))
+        by : (x : Decided) → admitted d (lengths_of l) command ≡ x → Settled c x → P (executed_as x d l)
+        by (Err a) e s = none (Err a) refl
+        by (Ok k) e s = rw s (some (rw s at (admitted_ready d (lengths_of l) command k e)))
 
     -- a good command was in order
-    pub good_in_order : is_good (executed d command l).answer ≡ true → admitted d (lengths_of l) command ≡ Go c
+    pub good_in_order : is_good (executed d command l).answer ≡ true → admitted d (lengths_of l) command ≡ Ok c
     unfolding executed
     good_in_order = by (admitted d (lengths_of l) command) refl admitted_settled
       where
-        by : (x : Admitted) → admitted d (lengths_of l) command ≡ x → Settled c x → is_good (executed_as x d l).answer ≡ true
-            → admitted d (lengths_of l) command ≡ Go c
-        by (Refused a) e s g = absurd (true≢false (sym g ∙ s))
-        by (Go k) e s g = e ∙ ap Go s
+        by : (x : Decided) → admitted d (lengths_of l) command ≡ x → Settled c x → is_good (executed_as x d l).answer ≡ true
+            → admitted d (lengths_of l) command ≡ Ok c
+        by (Err a) e s g = absurd (true≢false (sym g))
+        by (Ok k) e s g = e ∙ ap Ok s
 
     -- "A READ or VERIFY never changes the segment."
     pub read_or_verify_leaves_segment : (c.operation ≡ Write → ⊥) → (executed d command l).left.segment ≡ l.segment
@@ -218,16 +215,16 @@ module _ (d : Description) (command : List ℕ) (l : Lent) where
 
 -- "The answer of a READ or VERIFY depends on the description, the command, the lengths and the transfer's blocks, on no other block."; of
 -- document 02, "such an answer depends on the sent buffer too", where the command compares
-pub own_blocks_alone : (d : Description) (command : List ℕ) (l m : Lent) (c : Command) → decode command ≡ Served c → (c.operation ≡ Write → ⊥)
+pub own_blocks_alone : (d : Description) (command : List ℕ) (l m : Lent) (c : Command) → decode command ≡ Ok c → (c.operation ≡ Write → ⊥)
     → lengths_of l ≡ lengths_of m → blocks_of d c l.segment ≡ blocks_of d c m.segment → (compares c ≡ true → l.buffer ≡ m.buffer)
     → Alike c (executed d command l) (executed d command m)
 unfolding executed
 own_blocks_alone d command l m c served n long e sent =
     rw (← long) (by (admitted d (lengths_of l) command) (admitted_settled d command l c served))
   where
-    by : (x : Admitted) → Settled c x → Alike c (executed_as x d l) (executed_as x d m)
-    by (Refused a) t = record { answer = refl; filled = λ r g. absurd (true≢false (sym g ∙ t)) }
-    by (Go k) t = rw t (performed_alike d c l m e n sent)
+    by : (x : Decided) → Settled c x → Alike c (executed_as x d l) (executed_as x d m)
+    by (Err a) t = record { answer = refl; filled = λ r g. absurd (true≢false (sym g)) }
+    by (Ok k) t = rw t (performed_alike d c l m e n sent)
 
 -- "No other bit changes an answer.": commands that differ in no bit of the table's have one outcome, the answer with its
 -- numbers and every lent byte, on every segment and buffer
@@ -237,8 +234,8 @@ no_other_bit d c c' l s = rw (same_command c c' s) refl
 
 -- a READ after a WRITE of the same blocks, both good
 module _ (d : Description) (writing : List ℕ) (l : Lent) (reading out : List ℕ) (w k : Command)
-    (writes : decode writing ≡ Served w) (is-write : w.operation ≡ Write) (good-write : is_good (executed d writing l).answer ≡ true)
-    (reads : decode reading ≡ Served k) (is_read : k.operation ≡ Read)
+    (writes : decode writing ≡ Ok w) (is-write : w.operation ≡ Write) (good-write : is_good (executed d writing l).answer ≡ true)
+    (reads : decode reading ≡ Ok k) (is_read : k.operation ≡ Read)
     (good-read : is_good (executed d reading (lent (executed d writing l).left.segment out)).answer ≡ true)
     (address : k.address ≡ w.address) (long : k.length ≡ w.length) where
   abbrev now : List ℕ
@@ -278,7 +275,7 @@ named_is_wrong d c l a f right =
     true≢false (sym (ap is_good (right f.side w.block w.interval w.block_within w.interval_within)) ∙ wrong)
 
 module _ (d : Description) (command : List ℕ) (l : Lent) (c : Command)
-    (bytes : Bytes command) (in_order : admitted d (lengths_of l) command ≡ Go c) where
+    (bytes : Bytes command) (in_order : admitted d (lengths_of l) command ≡ Ok c) where
   small : first_tag d c < 2 ^ 32
   small = tag_small d c (served_bounded command c (admitted_served d (lengths_of l) command c in_order) bytes).tag
 
@@ -292,20 +289,20 @@ module _ (d : Description) (command : List ℕ) (l : Lent) (c : Command)
   unfolding executed performed moved verdict judged
   answer_is = rw in_order refl
 
-  right_side : (side : Side) → (judged_side side ≡ answers.Good) ↔ AllRight side d c l
+  right_side : (side : Side) → (judged_side side ≡ answers.good) ↔ AllRight side d c l
   right_side side = side_good side d c (under_check side d c l) small
 
-  right_sides : (or_else (judged_side Sent) (judged_side Stored) ≡ answers.Good) ↔ ((side : Side) → AllRight side d c l)
+  right_sides : (or_else (judged_side Sent) (judged_side Stored) ≡ answers.good) ↔ ((side : Side) → AllRight side d c l)
   right_sides =
       let both = or_else_good (judged_side Sent) (judged_side Stored) in
       (λ e. each (both.0 e), λ f. both.1 ((right_side Sent).1 (f Sent), (right_side Stored).1 (f Stored)))
     where
-      each : (judged_side Sent ≡ answers.Good) × (judged_side Stored ≡ answers.Good) → (side : Side) → AllRight side d c l
+      each : (judged_side Sent ≡ answers.good) × (judged_side Stored ≡ answers.good) → (side : Side) → AllRight side d c l
       each two Sent = (right_side Sent).0 two.0
       each two Stored = (right_side Stored).0 two.1
 
   -- good exactly when every interval under check is right and, where it compares, every block is the one sent
-  pub good_exactly_when_right_and_same : ((executed d command l).answer ≡ answers.Good) ↔ (((side : Side) → AllRight side d c l) × AllSame d c l)
+  pub good_exactly_when_right_and_same : ((executed d command l).answer ≡ answers.good) ↔ (((side : Side) → AllRight side d c l) × AllSame d c l)
   good_exactly_when_right_and_same =
       let both = or_else_good (or_else (judged_side Sent) (judged_side Stored)) compared_here in
       let same = all_same d c l in
@@ -313,7 +310,7 @@ module _ (d : Description) (command : List ℕ) (l : Lent) (c : Command)
       (λ e. let two = both.0 e in (right_sides.0 two.0, same.0 two.1), λ f. both.1 (right_sides.1 f.0, same.1 f.1))
 
   -- "a transfer with no wrong interval is good", and no other is
-  pub good_exactly_when_all_right : compares c ≡ false → ((executed d command l).answer ≡ answers.Good) ↔ ((side : Side) → AllRight side d c l)
+  pub good_exactly_when_all_right : compares c ≡ false → ((executed d command l).answer ≡ answers.good) ↔ ((side : Side) → AllRight side d c l)
   good_exactly_when_all_right off =
       let all = good_exactly_when_right_and_same in
       (λ e. (all.0 e).0, λ f. all.1 (f, λ on. absurd (true≢false (sym on ∙ off))))
@@ -321,7 +318,7 @@ module _ (d : Description) (command : List ℕ) (l : Lent) (c : Command)
   names_the_first : is_good (or_else (judged_side Sent) (judged_side Stored)) ≡ false → FirstNamed d c l (or_else (judged_side Sent) (judged_side Stored))
   names_the_first w = by w (good_or (judged_side Sent))
     where
-      by : is_good (or_else (judged_side Sent) (judged_side Stored)) ≡ false → (judged_side Sent ≡ answers.Good) ⊎ (is_good (judged_side Sent) ≡ false)
+      by : is_good (or_else (judged_side Sent) (judged_side Stored)) ≡ false → (judged_side Sent ≡ answers.good) ⊎ (is_good (judged_side Sent) ≡ false)
           → FirstNamed d c l (or_else (judged_side Sent) (judged_side Stored))
       by w (inl g) =
           rw g
@@ -344,7 +341,7 @@ module _ (d : Description) (command : List ℕ) (l : Lent) (c : Command)
   refused_names = rw answer_is (λ w. by w (good_or (or_else (judged_side Sent) (judged_side Stored))))
     where
       by : is_good (or_else (or_else (judged_side Sent) (judged_side Stored)) compared_here) ≡ false
-          → (or_else (judged_side Sent) (judged_side Stored) ≡ answers.Good) ⊎ (is_good (or_else (judged_side Sent) (judged_side Stored)) ≡ false)
+          → (or_else (judged_side Sent) (judged_side Stored) ≡ answers.good) ⊎ (is_good (or_else (judged_side Sent) (judged_side Stored)) ≡ false)
           → FirstNamed d c l (or_else (or_else (judged_side Sent) (judged_side Stored)) compared_here)
           ⊎ (((side : Side) → AllRight side d c l) × (compares c ≡ true) × FirstDifferent d c l (or_else (or_else (judged_side Sent) (judged_side Stored)) compared_here))
       by w (inl g) = rw g (let d = first_different d c l (rw g at w) in inr (right_sides.0 g, d.0, d.1))
@@ -384,13 +381,13 @@ module _ (d : Description) (command : List ℕ) (l : Lent) (bytes : Bytes comman
   abbrev answered : Answer
   answered = (executed d command l).answer
 
-  refused_is_wrong : for_protection answered ≡ true → (x : Admitted) → admitted d (lengths_of l) command ≡ x → WrongInterval d command l
+  refused_is_wrong : for_protection answered ≡ true → (x : Decided) → admitted d (lengths_of l) command ≡ x → WrongInterval d command l
   unfolding executed
-  refused_is_wrong p (Refused a) e =
+  refused_is_wrong p (Err a) e =
       absurd
       (true≢false
-      (sym p ∙ ap (λ (x : Admitted). for_protection (executed_as x d l).answer) e ∙ not_in_order_names_no_interval d (lengths_of l) command a e))
-  refused_is_wrong p (Go c) e =
+      (sym p ∙ ap (λ (x : Decided). for_protection (executed_as x d l).answer) e ∙ not_in_order_names_no_interval d (lengths_of l) command a e))
+  refused_is_wrong p (Ok c) e =
       let first = protection_names_the_first_wrong d command l c bytes e p in
       let f = first.first in
       record {
@@ -418,13 +415,13 @@ module _ (d : Description) (command : List ℕ) (l : Lent) (bytes : Bytes comman
   pub refused_exactly_when_wrong : (for_protection (executed d command l).answer ≡ true) ↔ WrongInterval d command l
   refused_exactly_when_wrong = (λ p. refused_is_wrong p (admitted d (lengths_of l) command) refl, wrong_is_refused)
 
-  differs_is_different : for_difference answered ≡ true → (x : Admitted) → admitted d (lengths_of l) command ≡ x → DifferentBlock d command l
+  differs_is_different : for_difference answered ≡ true → (x : Decided) → admitted d (lengths_of l) command ≡ x → DifferentBlock d command l
   unfolding executed
-  differs_is_different p (Refused a) e =
+  differs_is_different p (Err a) e =
       absurd
       (true≢false
-      (sym p ∙ ap (λ (x : Admitted). for_difference (executed_as x d l).answer) e ∙ not_in_order_names_no_block d (lengths_of l) command a e))
-  differs_is_different p (Go c) e =
+      (sym p ∙ ap (λ (x : Decided). for_difference (executed_as x d l).answer) e ∙ not_in_order_names_no_block d (lengths_of l) command a e))
+  differs_is_different p (Ok c) e =
       ⊎_elim
       (λ f. absurd (true≢false (sym (between (number_of answered) f.first.names.least f.first.names.most) ∙ fifteen_for_no_field answered (eqb-true _ _ p))))
       (λ three. let f = three.2 in record { transfer = c; in_order = e; comparing = three.1; right = three.0; block = f.block; within = f.within; different = f.here })
@@ -450,47 +447,45 @@ refusal_same : (d : Description) (c : Command) (l : Lengths) → is_verify c.ope
 unfolding refusal type_rules long_rule other_rule plain_rule code_rule check_rule size_rule moved_of buffer_rule buffer_of
 refusal_same d c l v = rw v
 
-passed : (s g g' : Bool) (x r r' : Answer) (c k : Command) → g' ≡ g → cond s (cond g (Go c) (Refused r)) (Refused x) ≡ Go c
-    → cond s (cond g' (Go k) (Refused r')) (Refused x) ≡ Go k
-passed true true g' x r r' c k same e = rw same refl
-passed true false g' x r r' c k same e = let z : ◌≡◌ {A = ℕ} 0 1 = cc in absurd (omega arith)
-passed false g g' x r r' c k same e = let z : ◌≡◌ {A = ℕ} 0 1 = cc in absurd (omega arith)
+passed : (x r r' : Answer) (c k : Command) → r' ≡ r → behind x (behind r (Ok c)) ≡ Ok c → behind x (behind r' (Ok k)) ≡ Ok k
+passed (Ok u) (Ok v) r' c k same e = rw same refl
+passed (Ok u) (Err f) r' c k same e = let z : ◌≡◌ {A = ℕ} 0 1 = cc in absurd (omega arith)
+passed (Err f) r r' c k same e = let z : ◌≡◌ {A = ℕ} 0 1 = cc in absurd (omega arith)
 
 -- what a good WRITE tells
 module _ (d : Description) (writing : List ℕ) (l : Lent) (w : Command) (bytes : Bytes writing)
-    (writes : decode writing ≡ Served w) (is-write : w.operation ≡ Write) (good-write : is_good (executed d writing l).answer ≡ true) where
-  write_went : admitted d (lengths_of l) writing ≡ Go w
+    (writes : decode writing ≡ Ok w) (is-write : w.operation ≡ Write) (good-write : is_good (executed d writing l).answer ≡ true) where
+  write_went : admitted d (lengths_of l) writing ≡ Ok w
   write_went = good_in_order d writing l w writes good-write
 
   -- a command whose fields are as much in order goes on, on the segment that is left
-  pub goes_on_after : (command buffer : List ℕ) (k : Command) → decode command ≡ Served k → length buffer ≡ length l.buffer
-      → refusal d k (lengths_of l) ≡ refusal d w (lengths_of l) → admitted d (lengths_of (lent (executed d writing l).left.segment buffer)) command ≡ Go k
+  pub goes_on_after : (command buffer : List ℕ) (k : Command) → decode command ≡ Ok k → length buffer ≡ length l.buffer
+      → refusal d k (lengths_of l) ≡ refusal d w (lengths_of l) → admitted d (lengths_of (lent (executed d writing l).left.segment buffer)) command ≡ Ok k
   unfolding admitted
   goes_on_after command buffer k served room same =
       let lengths : lengths_of (lent (executed d writing l).left.segment buffer) ≡ lengths_of l = rw ((good_write_keeps_other_blocks d writing l w writes).long, room) in
       ap (λ (x : Lengths). admitted d x command) lengths
       ∙ rw served
-      (passed (is_good (segment_rules d (length l.segment))) (is_good (refusal d w (lengths_of l))) (is_good (refusal d k (lengths_of l)))
-      (segment_rules d (length l.segment)) (refusal d w (lengths_of l)) (refusal d k (lengths_of l)) w k
-      (ap is_good same) (rw writes at write_went))
+      (passed (segment_rules d (length l.segment)) (refusal d w (lengths_of l)) (refusal d k (lengths_of l)) w k same
+      (rw writes at write_went))
 
   pub was_stored : Ready d w (lengths_of l) × (blocks_of d w (executed d writing l).left.segment ≡ received d w l.buffer)
   was_stored = good_write_stores d writing l w writes is-write good-write
 
-  pub write_judged : judged_on Sent d w l.buffer ≡ answers.Good
+  pub write_judged : judged_on Sent d w l.buffer ≡ answers.good
   unfolding executed performed moved verdict judged
   write_judged =
       ((or_else_good (judged_on Sent d w l.buffer) _).0
       ((or_else_good (judged d w l.buffer (blocks_of d w l.segment)) _).0 (good_is _ (rw write_went at good-write))).0).0
 
   -- the blocks that were stored, judged as stored ones
-  pub accepted : judged_on Stored d (as_read w) (received d w l.buffer) ≡ answers.Good
+  pub accepted : judged_on Stored d (as_read w) (received d w l.buffer) ≡ answers.good
   accepted = by (eqb d.kind 0) refl (eqb w.code 0) refl
     where
       bounded : Bounded w
       bounded = served_bounded writing w writes bytes
 
-      by : (k : Bool) → eqb d.kind 0 ≡ k → (z : Bool) → eqb w.code 0 ≡ z → judged_on Stored d (as_read w) (received d w l.buffer) ≡ answers.Good
+      by : (k : Bool) → eqb d.kind 0 ≡ k → (z : Bool) → eqb w.code 0 ≡ z → judged_on Stored d (as_read w) (received d w l.buffer) ≡ answers.good
       by true k z e = judged_none Stored d (as_read w) _ (checked_plain Stored d (as_read w) (eqb-true d.kind 0 k))
       by false k true e =
           let parts = whole_not d w (eqb-false d.kind 0 k) (eqb-true w.code 0 e) in
@@ -505,15 +500,15 @@ module _ (d : Description) (writing : List ℕ) (l : Lent) (w : Command) (bytes 
           ∙ received_accepted d w l.buffer w.length (tag_small d w bounded.tag) (sym (judged_all Sent d w l.buffer n sends) ∙ write_judged)
 
 module _ (d : Description) (writing : List ℕ) (l : Lent) (reading out : List ℕ) (w : Command) (bytes : Bytes writing)
-    (writes : decode writing ≡ Served w) (is-write : w.operation ≡ Write) (good-write : is_good (executed d writing l).answer ≡ true)
-    (reads : decode reading ≡ Served (as_read w)) (room : length out ≡ length l.buffer) where
+    (writes : decode writing ≡ Ok w) (is-write : w.operation ≡ Write) (good-write : is_good (executed d writing l).answer ≡ true)
+    (reads : decode reading ≡ Ok (as_read w)) (room : length out ≡ length l.buffer) where
   abbrev then : Lent
   then = lent (executed d writing l).left.segment out
 
-  read_went : admitted d (lengths_of then) reading ≡ Go (as_read w)
+  read_went : admitted d (lengths_of then) reading ≡ Ok (as_read w)
   read_went = goes_on_after d writing l w bytes writes is-write good-write reading out (as_read w) reads room (refusal_same d w (lengths_of l) (ap is_verify is-write))
 
-  read_good : (executed d reading then).answer ≡ answers.Good
+  read_good : (executed d reading then).answer ≡ answers.good
   unfolding executed performed moved verdict judged
   read_good =
       rw read_went
@@ -527,7 +522,7 @@ module _ (d : Description) (writing : List ℕ) (l : Lent) (reading out : List �
       ))
 
   -- the same address, length, protect code and tags: the READ is good, and gives back the WRITE's buffer
-  pub written_reads_back : ((executed d reading (lent (executed d writing l).left.segment out)).answer ≡ answers.Good)
+  pub written_reads_back : ((executed d reading (lent (executed d writing l).left.segment out)).answer ≡ answers.good)
       × ((executed d reading (lent (executed d writing l).left.segment out)).left.buffer ≡ l.buffer)
   unfolding whole
   written_reads_back =

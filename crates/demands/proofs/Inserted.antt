@@ -1,5 +1,6 @@
 -- What a good WRITE with 000 has inserted, interval by interval.
 -- Assumes nothing.
+use Rattle.std.specs.Prelude.{Ok}
 use mathlib.Core.Path.{◌≡◌, refl, sym, ap, ◌∙◌}
 use mathlib.Core.Logic.{◌⊎◌, inl, inr}
 use mathlib.Core.Bool.{Bool, true, false, not, ◌&&◌, cond}
@@ -15,15 +16,15 @@ use Rattle.words.specs.Parts.{Bytes}
 use Rattle.words.specs.Runs.{runs}
 use Rattle.guard.specs.Guard.{guard}
 use Rattle.answer.specs.Answer.{is_good}
-use Rattle.answer.specs.declared.Answer.TheVariants as answers
+use Rattle.answer.specs.Answer as answers
 use Rattle.segment.specs.declared.Description.{Description}
 use Rattle.segment.specs.Segment.{intervals_of, size_of}
 use Rattle.segment.specs.Places.{interval_at}
 use Rattle.segment.proofs.Laws.{sizes}
 use Rattle.command.specs.declared.Command.{Command}
+use Rattle.command.specs.Tags.{long, tag_of}
 use Rattle.command.specs.declared.Operation.TheVariants.{Write}
 use Rattle.decoding.specs.Commands.{decode}
-use Rattle.decoding.specs.declared.Decoded.TheVariants.{Served}
 use Rattle.decoding.proofs.Laws.{Bounded, served_bounded}
 use Rattle.guard.proofs.Laws.{guard_lt}
 use Rattle.field.specs.Field.{stored_guard, stored_application, stored_reference, field_bytes, data_of, field_of}
@@ -143,9 +144,9 @@ reference_of k false a t n j i (inr (inl e)) =
 reference_of k l a t n j i (inr (inr e)) = rw (e, mul-zero) refl
 
 -- ---- a good WRITE with 000
-module _ (d : Description) (command : List ℕ) (l : Lent) (c : Command) (bytes : Bytes command) (served : decode command ≡ Served c)
+module _ (d : Description) (command : List ℕ) (l : Lent) (c : Command) (bytes : Bytes command) (served : decode command ≡ Ok c)
     (is-write : c.operation ≡ Write) (zero-code : c.code ≡ 0) (fields : d.kind ≡ 0 → ⊥)
-    (good : (executed d command l).answer ≡ answers.Good) where
+    (good : (executed d command l).answer ≡ answers.good) where
   stored : Ready d c (lengths_of l) × (blocks_of d c (executed d command l).left.segment ≡ received d c l.buffer)
   stored = good_write_stores d command l c served is-write (ap is_good good)
 
@@ -155,7 +156,7 @@ module _ (d : Description) (command : List ℕ) (l : Lent) (c : Command) (bytes 
   reference_is : (j i : ℕ) → (marks_after (j * intervals_of d + i) (marks_of d c)).reference ≡ inserted_reference_at d c j i
   unfolding marks_of inserted_reference first_tag
   reference_is j i =
-      reference_of d.kind c.long c.address c.tag (intervals_of d) j i (one_two_three d.kind stored.0.described.kind fields)
+      reference_of d.kind (long c) c.address (tag_of c) (intervals_of d) j i (one_two_three d.kind stored.0.described.kind fields)
 
   -- of each interval of the transfer
   pub inserted_fields : (j i : ℕ) → j < c.length → i < intervals_of d → InsertedAt d c (blocks_of d c (executed d command l).left.segment) l.buffer j i

@@ -1,5 +1,6 @@
 -- What a good transfer has moved, sentence by sentence. Each follows from the theorems of Demands.
 -- Assumes nothing.
+use Rattle.std.specs.Prelude.{Ok}
 use mathlib.Core.Path.{◌≡◌, refl, sym, ap, ap₂, ◌∙◌}
 use mathlib.Core.Bool.{Bool, true, false, not, ◌||◌, cond}
 use mathlib.Core.List.{List, [], ◌++◌}
@@ -8,14 +9,13 @@ use native.Mathlib.Nat.{zero-mul, le_of_eq, not-suc-le-zero}
 use native.Mathlib.Omega.{arith}
 use borrow.Author.Tests.{ne_eqb}
 use lib.Dec.{eqb}
-use lib.ListN.{length, take, drop, take-append-drop}
+use lib.ListN.{take, drop, take-append-drop}
 use lib.Seq.{take_all}
 use Rattle.words.specs.Parts.{Bytes}
 use Rattle.words.specs.Runs.{runs}
-use Rattle.answer.specs.Answer.{is_good}
+use Rattle.answer.specs.Answer.{is_good, Answer}
 use Rattle.answer.specs.Outcome.{Outcome, outcome}
-use Rattle.answer.specs.declared.Answer.{Answer}
-use Rattle.answer.specs.declared.Answer.TheVariants as answers
+use Rattle.answer.specs.Answer as answers
 use Rattle.answer.proofs.Ladder.{or_else_good}
 use Rattle.segment.specs.declared.Description.{Description}
 use Rattle.segment.specs.Segment.{intervals_of, size_of, stored_of}
@@ -24,7 +24,6 @@ use Rattle.command.specs.declared.Command.{Command}
 use Rattle.command.specs.declared.Operation.{Operation}
 use Rattle.command.specs.declared.Operation.TheVariants.{Read, Write, Verify}
 use Rattle.decoding.specs.Commands.{decode}
-use Rattle.decoding.specs.declared.Decoded.TheVariants.{Served}
 use Rattle.blocks.specs.Blocks.{user_data}
 use Rattle.sides.specs.declared.Side.{Side}
 use Rattle.sides.specs.declared.Side.TheVariants.{Sent, Stored}
@@ -35,7 +34,6 @@ use Rattle.command.specs.Compares.{is_verify}
 use Rattle.command.proofs.CommandLaws.{not_verify}
 use Rattle.refusal.specs.Refusal.{moved_of}
 use Rattle.refusal.proofs.Rules.{room_moved}
-use Rattle.admission.specs.declared.Admitted.TheVariants.{Go}
 use Rattle.admission.specs.Admission.{admitted}
 use Rattle.admission.proofs.Ready.{admitted_served, admitted_ready}
 use Rattle.execute.specs.Lent.{Lent, lent, lengths_of}
@@ -85,20 +83,20 @@ module _ (d : Description) (c : Command) (none : c.length ≡ 0) where
   handed_none segment =
       none_handed (whole d c) _ (size_of d) (c.length * intervals_of d) (ap (λ (n : ℕ). take n (drop (offset_of d c.address) segment)) span_none) (no_bytes (intervals_of d))
 
-  module _ (command : List ℕ) (l : Lent) (in_order : admitted d (lengths_of l) command ≡ Go c) where
+  module _ (command : List ℕ) (l : Lent) (in_order : admitted d (lengths_of l) command ≡ Ok c) where
     abbrev done : Outcome Lent
     done = executed d command l
 
-    served : decode command ≡ Served c
+    served : decode command ≡ Ok c
     served = admitted_served d (lengths_of l) command c in_order
 
-    none_judged : (side : Side) → judged_on side d c (under_check side d c l) ≡ answers.Good
+    none_judged : (side : Side) → judged_on side d c (under_check side d c l) ≡ answers.good
     none_judged side = judged_none side d c _ (checked_nothing side)
 
-    none_compared : compared d c (under_check Sent d c l) (under_check Stored d c l) ≡ answers.Good
+    none_compared : compared d c (under_check Sent d c l) (under_check Stored d c l) ≡ answers.good
     none_compared = (all_same d c l).1 (λ on j h. absurd (not-suc-le-zero (rw none at h)))
 
-    none_good : done.answer ≡ answers.Good
+    none_good : done.answer ≡ answers.good
     unfolding executed performed verdict judged
     none_good =
         rw in_order
@@ -119,15 +117,15 @@ module _ (d : Description) (c : Command) (none : c.length ≡ 0) where
     none_filled Verify e = write_or_verify_leaves_buffer d command l c served (λ r. let z : ◌≡◌ {A = ℕ} 0 1 = cc in omega arith)
 
     -- "Length T of 0 moves nothing and, where no earlier refusal applies, is good."
-    pub nothing_moved : executed d command l ≡ outcome answers.Good l
+    pub nothing_moved : executed d command l ≡ outcome answers.good l
     nothing_moved =
         ap₂ (λ (a : Answer) (s : List ℕ). outcome a (lent s done.left.buffer)) none_good
         (beside_none d c l.segment done.left.segment span_none (good_write_keeps_other_blocks d command l c served))
-        ∙ ap (λ (b : List ℕ). outcome answers.Good (lent l.segment b)) (none_filled c.operation refl)
+        ∙ ap (λ (b : List ℕ). outcome answers.good (lent l.segment b)) (none_filled c.operation refl)
 
 -- ---- a good command
-module _ (d : Description) (command : List ℕ) (l : Lent) (c : Command) (served : decode command ≡ Served c)
-    (good : (executed d command l).answer ≡ answers.Good) where
+module _ (d : Description) (command : List ℕ) (l : Lent) (c : Command) (served : decode command ≡ Ok c)
+    (good : (executed d command l).answer ≡ answers.good) where
   -- "received fields are stored as received"
   pub received_as_sent : c.operation ≡ Write → (c.code ≡ 0 → ⊥) → blocks_of d c (executed d command l).left.segment ≡ l.buffer
   unfolding whole
@@ -141,7 +139,7 @@ module _ (d : Description) (command : List ℕ) (l : Lent) (c : Command) (served
 
   -- "Stored fields are judged before they are taken off": each interval of the blocks whose user data is handed out is right
   pub judged_before_taken_off : Bytes command → c.operation ≡ Read → c.code ≡ 0 → (d.kind ≡ 0 → ⊥)
-      → ((j i : ℕ) → j < c.length → i < intervals_of d → verdict_at Stored d c (blocks_of d c l.segment) j i ≡ answers.Good)
+      → ((j i : ℕ) → j < c.length → i < intervals_of d → verdict_at Stored d c (blocks_of d c l.segment) j i ≡ answers.good)
       × ((executed d command l).left.buffer ≡ user_data (size_of d) (c.length * intervals_of d) (blocks_of d c l.segment))
   judged_before_taken_off bytes r zero fields = (
     rw (checked_all Stored d c fields (ap (λ (o : Operation). checks_on Stored o c) r)) at

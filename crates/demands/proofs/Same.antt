@@ -4,9 +4,8 @@ use Prim.Native.Nat.{ℕ, ◌<◌}
 use mathlib.Core.Path.{◌≡◌, refl, sym, ap, ◌∙◌}
 use mathlib.Core.Logic.{◌↔◌}
 use mathlib.Core.Bool.{Bool, true, false, cond, true≢false}
-use Rattle.answer.specs.Answer.{number_of, sense_of, address_of, place_of, is_good}
-use Rattle.answer.specs.declared.Answer.{Answer}
-use Rattle.answer.specs.declared.Answer.TheVariants as answers
+use Rattle.answer.specs.Answer.{number_of, sense_of, address_of, place_of, is_good, Answer}
+use Rattle.answer.specs.Answer as answers
 use Rattle.segment.specs.declared.Description.{Description}
 use Rattle.command.specs.declared.Command.{Command}
 use Rattle.command.specs.Compares.{compares}
@@ -23,14 +22,14 @@ module _ (d : Description) (c : Command) (l : Lent) where
   abbrev blocks : Answer
   blocks = compare_blocks (each_of d c) c.length c.address (handed d c (blocks_of d c l.segment)) l.buffer
 
-  pub all_same : (compared d c (under_check Sent d c l) (under_check Stored d c l) ≡ answers.Good) ↔ AllSame d c l
+  pub all_same : (compared d c (under_check Sent d c l) (under_check Stored d c l) ≡ answers.good) ↔ AllSame d c l
   unfolding compared
   all_same = by (compares c) refl
     where
-      each : (blocks ≡ answers.Good) ↔ ((j : ℕ) → j < c.length → SameBlock d c l j)
+      each : (blocks ≡ answers.good) ↔ ((j : ℕ) → j < c.length → SameBlock d c l j)
       each = blocks_same (each_of d c) c.length c.address (handed d c (blocks_of d c l.segment)) l.buffer
 
-      by : (b : Bool) → compares c ≡ b → (cond b blocks answers.Good ≡ answers.Good) ↔ AllSame d c l
+      by : (b : Bool) → compares c ≡ b → (cond b blocks answers.good ≡ answers.good) ↔ AllSame d c l
       by true on = (λ e n. each.0 e, λ f. each.1 (f on))
       by false off = (λ e n. absurd (true≢false (sym n ∙ off)), λ f. refl)
 
@@ -39,7 +38,7 @@ module _ (d : Description) (c : Command) (l : Lent) where
   unfolding compared
   first_different = by (compares c) refl
     where
-      by : (b : Bool) → compares c ≡ b → is_good (cond b blocks answers.Good) ≡ false → (compares c ≡ true) × FirstDifferent d c l (cond b blocks answers.Good)
+      by : (b : Bool) → compares c ≡ b → is_good (cond b blocks answers.good) ≡ false → (compares c ≡ true) × FirstDifferent d c l (cond b blocks answers.good)
       by true on w =
           let f = blocks_differ (each_of d c) c.length c.address (handed d c (blocks_of d c l.segment)) l.buffer w in (
             on,

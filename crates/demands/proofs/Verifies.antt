@@ -1,16 +1,17 @@
 -- Document 02, "Compare while verifying", beside the demands: what a VERIFY leaves, what it checks and compares, and that it finds what was
 -- written.
 -- Assumes nothing.
+use Rattle.std.specs.Prelude.{Ok}
 use mathlib.Core.Path.{◌≡◌, refl, sym, ap, ap₂, ◌∙◌}
 use mathlib.Core.Bool.{Bool, true, false, not, cond}
 use mathlib.Core.List.{List}
 use Prim.Native.Nat.{ℕ, ◌*◌}
 use native.Mathlib.Omega.{arith}
-use borrow.Author.Tests.{eq-eqb, ne_eqb, eqb-true, eqb-false, le-ltb}
+use borrow.Author.Tests.{eq-eqb, ne_eqb, eqb-true, eqb-false}
 use lib.Dec.{eqb, ltb}
 use Rattle.words.specs.Parts.{Bytes}
 use Rattle.answer.specs.Answer.{is_good, or_else}
-use Rattle.answer.specs.declared.Answer.TheVariants as answers
+use Rattle.answer.specs.Answer as answers
 use Rattle.answer.proofs.Ladder.{or_else_good}
 use Rattle.segment.specs.declared.Description.{Description}
 use Rattle.segment.specs.Segment.{intervals_of, size_of, stored_of}
@@ -20,7 +21,6 @@ use Rattle.command.specs.declared.Operation.TheVariants.{Read, Write, Verify}
 use Rattle.command.specs.Compares.{is_verify, compares}
 use Rattle.command.proofs.CommandLaws.{comparing}
 use Rattle.decoding.specs.Commands.{decode}
-use Rattle.decoding.specs.declared.Decoded.TheVariants.{Served}
 use Rattle.decoding.proofs.Demands.{verify_alone_has_bits}
 use Rattle.blocks.specs.Blocks.{user_data}
 use Rattle.comparison.specs.Comparison.{compare_blocks}
@@ -33,10 +33,9 @@ use Rattle.rules.specs.Rules.{application_known, reference_known, first_tag, rul
 use Rattle.judge.specs.Judge.{judge_blocks}
 use Rattle.refusal.specs.declared.Lengths.{Lengths}
 use Rattle.refusal.specs.Refusal.{long_rule, other_rule, plain_rule, type_rules, code_rule, check_rule, size_rule, moved_of, buffer_of, buffer_rule, refusal}
-use Rattle.admission.specs.declared.Admitted.TheVariants.{Go}
 use Rattle.admission.specs.Admission.{admitted}
 use Rattle.execute.specs.Lent.{Lent, lent, lengths_of}
-use Rattle.transfer.specs.Transfer.{blocks_of, judged_on, judged, compared, verdict, whole, handed, received}
+use Rattle.transfer.specs.Transfer.{blocks_of, judged_on, judged, compared, verdict, whole, received}
 use Rattle.transfer.proofs.Shapes.{whole_code, whole_not, handed_whole, handed_parted, judged_none, judged_all}
 use Rattle.execute.specs.Execute.{performed, moved, executed}
 use Rattle.demands.specs.Compared.{asked, as_read}
@@ -51,7 +50,7 @@ no_read : (o : Operation) → o ≡ Verify → o ≡ Read → ⊥
 no_read o v r = let z : ◌≡◌ {A = ℕ} 0 1 = cc in omega arith
 
 -- a VERIFY never changes the segment or the buffer, whatever it answers
-pub verify_changes_nothing : (d : Description) (command : List ℕ) (l : Lent) (c : Command) → decode command ≡ Served c → c.operation ≡ Verify
+pub verify_changes_nothing : (d : Description) (command : List ℕ) (l : Lent) (c : Command) → decode command ≡ Ok c → c.operation ≡ Verify
     → (executed d command l).left ≡ l
 verify_changes_nothing d command l c served v =
     ap₂ lent (read_or_verify_leaves_segment d command l c served (no_write c.operation v))
@@ -115,12 +114,12 @@ unfolding refusal type_rules long_rule other_rule plain_rule code_rule check_rul
 refusal_as_verify d c l v z = let none : ltb 0b01 c.check ≡ false = ap (ltb 0b01) z in rw (v, none)
 
 module _ (d : Description) (writing : List ℕ) (l : Lent) (verifying : List ℕ) (w : Command) (bytes : Bytes writing)
-    (writes : decode writing ≡ Served w) (is-write : w.operation ≡ Write) (good-write : is_good (executed d writing l).answer ≡ true)
-    (verifies : decode verifying ≡ Served (as_comparing w)) where
+    (writes : decode writing ≡ Ok w) (is-write : w.operation ≡ Write) (good-write : is_good (executed d writing l).answer ≡ true)
+    (verifies : decode verifying ≡ Ok (as_comparing w)) where
   abbrev then : Lent
   then = lent (executed d writing l).left.segment l.buffer
 
-  went : admitted d (lengths_of then) verifying ≡ Go (as_comparing w)
+  went : admitted d (lengths_of then) verifying ≡ Ok (as_comparing w)
   went =
       goes_on_after d writing l w bytes writes is-write good-write verifying l.buffer (as_comparing w) verifies refl
       (refusal_as_verify d w (lengths_of l) (ap is_verify is-write) (verify_alone_has_bits writing w writes (λ v. no_write w.operation v is-write)))
@@ -132,12 +131,12 @@ module _ (d : Description) (writing : List ℕ) (l : Lent) (verifying : List ℕ
   unfolding compares
   on = refl
 
-  judged_good : judged d (as_comparing w) l.buffer (received d w l.buffer) ≡ answers.Good
+  judged_good : judged d (as_comparing w) l.buffer (received d w l.buffer) ≡ answers.good
   unfolding judged
   judged_good = (or_else_good (judged_on Sent d (as_comparing w) l.buffer) _).1 (by (eqb d.kind 0) refl (eqb w.code 0) refl)
     where
       by : (k : Bool) → eqb d.kind 0 ≡ k → (z : Bool) → eqb w.code 0 ≡ z
-          → (judged_on Sent d (as_comparing w) l.buffer ≡ answers.Good) × (judged_on Stored d (as_comparing w) (received d w l.buffer) ≡ answers.Good)
+          → (judged_on Sent d (as_comparing w) l.buffer ≡ answers.good) × (judged_on Stored d (as_comparing w) (received d w l.buffer) ≡ answers.good)
       by true k z e =
           let none = eqb-true d.kind 0 k in
           (judged_none Sent d (as_comparing w) _ (checked_plain Sent d (as_comparing w) none), judged_none Stored d (as_comparing w) _ (checked_plain Stored d (as_comparing w) none))
@@ -157,13 +156,13 @@ module _ (d : Description) (writing : List ℕ) (l : Lent) (verifying : List ℕ
             judged_none Stored d (as_comparing w) _ (checked_none Stored d (as_comparing w) (verify_of_whole_blocks Stored (as_comparing w) on z)),
           )
 
-  compared_good : compared d (as_comparing w) l.buffer (received d w l.buffer) ≡ answers.Good
+  compared_good : compared d (as_comparing w) l.buffer (received d w l.buffer) ≡ answers.good
   unfolding compared whole
   compared_good =
       rw (on, handed_back d w l (was_stored d writing l w bytes writes is-write good-write).0 is-write (as_comparing w) refl refl)
       ((blocks_same _ w.length w.address l.buffer l.buffer).1 (λ j h. refl))
 
-  pub written_compares_equal : (executed d verifying (lent (executed d writing l).left.segment l.buffer)).answer ≡ answers.Good
+  pub written_compares_equal : (executed d verifying (lent (executed d writing l).left.segment l.buffer)).answer ≡ answers.good
   unfolding executed performed moved verdict
   written_compares_equal =
       rw (went, stored_are)

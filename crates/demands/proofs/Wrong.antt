@@ -6,9 +6,8 @@ use mathlib.Core.Bool.{Bool, true, false, cond, true≢false}
 use mathlib.Core.List.{List}
 use Prim.Native.Nat.{ℕ, ◌+◌, ◌*◌, ◌^◌, ◌<◌}
 use lib.Dec.{lit≤}
-use Rattle.answer.specs.Answer.{is_good}
-use Rattle.answer.specs.declared.Answer.{Answer}
-use Rattle.answer.specs.declared.Answer.TheVariants as answers
+use Rattle.answer.specs.Answer.{is_good, Answer}
+use Rattle.answer.specs.Answer as answers
 use Rattle.segment.specs.declared.Description.{Description}
 use Rattle.segment.specs.Segment.{intervals_of, size_of}
 use Rattle.segment.specs.Places.{block_at, interval_at}
@@ -19,11 +18,10 @@ use Rattle.interval.specs.Verdict.{Verdict}
 use Rattle.field.specs.Field.{data_of, field_of}
 use Rattle.interval.specs.Interval.{guard_wrong, application_wrong, reference_wrong, judge_pieces, judge_interval}
 use Rattle.words.proofs.Turns.{after, piece_at}
-use Rattle.interval.proofs.PieceLaws.{pieces_verdict}
+use Rattle.interval.proofs.PieceLaws.{pieces_verdict, in_turn}
 use Rattle.judge.specs.FirstOf.{first_of}
 use Rattle.judge.specs.Judge.{judge_intervals, judge_block, judge_blocks, next_interval, next_block}
 use Rattle.answer.proofs.Ladder.{not_both}
-use Rattle.interval.proofs.PieceLaws.{in_turn}
 use Rattle.judge.proofs.FirstLaws.{first_good, first_found, FirstWrong}
 use Rattle.sides.specs.declared.Side.{Side}
 use Rattle.sides.specs.Sides.{checked_on}
@@ -66,18 +64,18 @@ module _ (side : Side) (d : Description) (c : Command) (s : List ℕ) (small : f
   abbrev in_block : ℕ → Answer
   in_block j = first_of (judge_interval (rules_of side d c)) next_interval (size_of d + 8) (intervals_of d) (reached j) (block_at d s j)
 
-  block_is : (j : ℕ) → judge_block (rules_of side d c) (reached j) (block_at d s j) ≡ cond (skipped side d c s j) answers.Good (in_block j)
+  block_is : (j : ℕ) → judge_block (rules_of side d c) (reached j) (block_at d s j) ≡ cond (skipped side d c s j) answers.good (in_block j)
   unfolding judge_block judge_intervals rules_of
   block_is j = refl
 
-  block_good : (j : ℕ) → (judge_block (rules_of side d c) (reached j) (block_at d s j) ≡ answers.Good) ↔ ((i : ℕ) → i < intervals_of d → verdict_at side d c s j i ≡ answers.Good)
+  block_good : (j : ℕ) → (judge_block (rules_of side d c) (reached j) (block_at d s j) ≡ answers.good) ↔ ((i : ℕ) → i < intervals_of d → verdict_at side d c s j i ≡ answers.good)
   block_good j = rw block_is (by (skipped side d c s j))
     where
-      all : (in_block j ≡ answers.Good) ↔ ((i : ℕ) → i < intervals_of d → piece_at (judge_interval (rules_of side d c)) next_interval (size_of d + 8) (reached j) (block_at d s j) i ≡ answers.Good)
+      all : (in_block j ≡ answers.good) ↔ ((i : ℕ) → i < intervals_of d → piece_at (judge_interval (rules_of side d c)) next_interval (size_of d + 8) (reached j) (block_at d s j) i ≡ answers.good)
       all = first_good (judge_interval (rules_of side d c)) next_interval (size_of d + 8) (intervals_of d) (reached j) (block_at d s j)
 
-      by : (b : Bool) → (cond b answers.Good (in_block j) ≡ answers.Good)
-          ↔ ((i : ℕ) → i < intervals_of d → cond b answers.Good (judge_interval (rules_of side d c) (place_at d c j i) (interval_at d s j i)) ≡ answers.Good)
+      by : (b : Bool) → (cond b answers.good (in_block j) ≡ answers.good)
+          ↔ ((i : ℕ) → i < intervals_of d → cond b answers.good (judge_interval (rules_of side d c) (place_at d c j i) (interval_at d s j i)) ≡ answers.good)
       by true = (λ e i h. refl, λ f. refl)
       by false = (λ e i h. sym (piece_is j i) ∙ all.0 e i h, λ f. all.1 (λ i h. piece_is j i ∙ f i h))
 
@@ -89,12 +87,12 @@ module _ (side : Side) (d : Description) (c : Command) (s : List ℕ) (small : f
   blocks_are k = refl
 
   -- k blocks are good exactly when each of their intervals is right
-  pub blocks_good : (k : ℕ) → (judge_blocks (rules_of side d c) k (start_of d c) s ≡ answers.Good) ↔ ((j i : ℕ) → j < k → i < intervals_of d → verdict_at side d c s j i ≡ answers.Good)
+  pub blocks_good : (k : ℕ) → (judge_blocks (rules_of side d c) k (start_of d c) s ≡ answers.good) ↔ ((j i : ℕ) → j < k → i < intervals_of d → verdict_at side d c s j i ≡ answers.good)
   blocks_good k =
       let all = first_good (judge_block (rules_of side d c)) (next_block (intervals_of d)) (intervals_of d * (size_of d + 8)) k (start_of d c) s in
       rw blocks_are (λ e j i h. (block_good j).0 (all.0 e j h) i, λ f. all.1 (λ j h. (block_good j).1 (λ i. f j i h)))
 
-  pub side_good : (judged_on side d c s ≡ answers.Good) ↔ ((j i : ℕ) → j < checked_on side d c → i < intervals_of d → verdict_at side d c s j i ≡ answers.Good)
+  pub side_good : (judged_on side d c s ≡ answers.good) ↔ ((j i : ℕ) → j < checked_on side d c → i < intervals_of d → verdict_at side d c s j i ≡ answers.good)
   unfolding judged_on
   side_good = blocks_good (checked_on side d c)
 
@@ -109,7 +107,7 @@ module _ (side : Side) (d : Description) (c : Command) (s : List ℕ) (small : f
       found : (a : Answer) → FirstWrong (judge_block (rules_of side d c)) (next_block (intervals_of d)) (intervals_of d * (size_of d + 8)) k (start_of d c) s a → FirstWrongInterval side d c s a
       found a f = by (skipped side d c s f.at) refl (sym (block_is f.at) ∙ f.here)
         where
-          by : (b : Bool) → skipped side d c s f.at ≡ b → cond b answers.Good (in_block f.at) ≡ a → FirstWrongInterval side d c s a
+          by : (b : Bool) → skipped side d c s f.at ≡ b → cond b answers.good (in_block f.at) ≡ a → FirstWrongInterval side d c s a
           by true e h = absurd (not_both a (sym h) f.wrong)
           by false e h =
               let g = first_found (judge_interval (rules_of side d c)) next_interval (size_of d + 8) (intervals_of d) (reached f.at) (block_at d s f.at) (ap is_good h ∙ f.wrong) in

@@ -1,10 +1,9 @@
 -- What was said of a command before A1, "Compare while verifying": document 01's sentences, where that request has changed a definition. A
 -- command that does not compare is still answered so: `demands: Before.as_before`. What no sentence of A1 touches is taken as it stands.
-use Rattle.std.specs.Prelude.{ℕ, Bool, true, false, not, cond, List, eqb, length}
-use Rattle.answer.specs.Answer.{is_good, or_else, refused_if}
+use Rattle.std.specs.Prelude.{Ok, Err, ℕ, Bool, true, false, not, cond, List, eqb, length}
+use Rattle.answer.specs.Answer.{is_good, or_else, refused_if, Answer}
 use Rattle.answer.specs.Outcome.{Outcome, outcome, leaving}
-use Rattle.answer.specs.declared.Answer.{Answer}
-use Rattle.answer.specs.declared.Answer.TheVariants as answers
+use Rattle.answer.specs.Answer as answers
 use Rattle.answer.specs.declared.Reason.TheVariants as reasons
 use Rattle.segment.specs.declared.Description.{Description}
 use Rattle.segment.specs.Rules.{segment_rules}
@@ -13,9 +12,7 @@ use Rattle.command.specs.declared.Command.{Command}
 use Rattle.command.specs.declared.Operation.{Operation}
 use Rattle.command.specs.declared.Operation.TheVariants.{Read, Write, Verify}
 use Rattle.command.specs.Compares.{is_verify}
-use Rattle.decoding.specs.Commands.{decode}
-use Rattle.decoding.specs.declared.Decoded.{Decoded}
-use Rattle.decoding.specs.declared.Decoded.TheVariants as decoded
+use Rattle.decoding.specs.Commands.{decode, Decoded}
 use Rattle.judge.specs.Judge.{judge_blocks}
 use Rattle.sides.specs.declared.Side.{Side}
 use Rattle.sides.specs.declared.Side.TheVariants.{Sent, Stored}
@@ -62,9 +59,9 @@ unfoldable pub performed : Description → Command → Lent → Outcome Lent
 performed d c l = leaving (or_else (judged_on Sent d c l) (judged_on Stored d c l)) l (moved d c l)
 
 abbrev pub executed_as : Description → Decoded → Lent → Outcome Lent
-executed_as d (decoded.Served c) l =
+executed_as d (Ok c) l =
     cond (is_good (refusal d c (length l.buffer))) (performed d c l) (outcome (refusal d c (length l.buffer)) l)
-executed_as d (decoded.Refused r) l = outcome (answers.Refused r) l
+executed_as d (Err r) l = outcome (answers.refused r) l
 
 -- "1; 2", then the command's bytes, then its fields
 unfoldable pub executed : Description → List ℕ → Lent → Outcome Lent

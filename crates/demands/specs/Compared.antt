@@ -27,14 +27,11 @@ abbrev pub asked : Operation → ℕ → Command → Command
 asked o bits c =
     record {
       operation = o;
-      long = c.long;
       code = c.code;
       check = bits;
       address = c.address;
       length = c.length;
-      tag = c.tag;
-      application = c.application;
-      mask = c.mask;
+      tags = c.tags;
     }
 
 -- "READ after a good WRITE gives back what was written": the READ that asks as a command asks

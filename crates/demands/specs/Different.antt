@@ -1,14 +1,12 @@
 -- Document 02, "Compare while verifying": the blocks of a transfer that are not the ones sent.
-use Rattle.std.specs.Prelude.{ℕ, ◌+◌, ◌*◌, ◌<◌, ◌≡◌, true, List, take, drop}
-use Rattle.answer.specs.Answer.{number_of, sense_of, address_of, place_of}
-use Rattle.answer.specs.declared.Answer.{Answer}
+use Rattle.std.specs.Prelude.{Ok, ℕ, ◌+◌, ◌*◌, ◌<◌, ◌≡◌, true, List, take, drop}
+use Rattle.answer.specs.Answer.{number_of, sense_of, address_of, place_of, Answer}
 use Rattle.segment.specs.declared.Description.{Description}
 use Rattle.command.specs.declared.Command.{Command}
 use Rattle.command.specs.declared.Operation.TheVariants.{Write, Verify}
 use Rattle.command.specs.Compares.{compares}
 use Rattle.refusal.specs.Refusal.{each_of}
 use Rattle.sides.specs.declared.Side.{Side}
-use Rattle.admission.specs.declared.Admitted.TheVariants.{Go}
 use Rattle.admission.specs.Admission.{admitted}
 use Rattle.transfer.specs.Transfer.{blocks_of, handed}
 use Rattle.execute.specs.Lent.{Lent, lengths_of}
@@ -38,7 +36,7 @@ pub record FirstDifferent (d : Description) (c : Command) (l : Lent) (a : Answer
 -- "after every interval check": a transfer in order that compares, every interval under check right, and a block of it that differs
 pub record DifferentBlock (d : Description) (command : List ℕ) (l : Lent) : Type 0 where
   pub transfer : Command
-  pub in_order : admitted d (lengths_of l) command ≡ Go transfer
+  pub in_order : admitted d (lengths_of l) command ≡ Ok transfer
   pub comparing : compares transfer ≡ true
   pub right : (side : Side) → AllRight side d transfer l
   pub block : ℕ

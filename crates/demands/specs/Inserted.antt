@@ -5,6 +5,7 @@ use Rattle.segment.specs.declared.Description.{Description}
 use Rattle.segment.specs.Segment.{intervals_of, size_of}
 use Rattle.segment.specs.Places.{interval_at}
 use Rattle.command.specs.declared.Command.{Command}
+use Rattle.command.specs.Tags.{long}
 use Rattle.field.specs.Field.{stored_guard, stored_application, stored_reference, data_of, field_of}
 use Rattle.marks.specs.Inserted.{inserted_application}
 use Rattle.rules.specs.Intervals.{place_at}
@@ -14,7 +15,7 @@ use Rattle.rules.specs.Intervals.{place_at}
 abbrev pub inserted_reference_at : Description → Command → ℕ → ℕ → ℕ
 inserted_reference_at d c j i =
     cond (eqb d.kind 3) 0
-    (cond (eqb d.kind 2 && not c.long) (((c.address + j) * intervals_of d + i) % 2 ^ 32) (place_at d c j i).tag)
+    (cond (eqb d.kind 2 && not (long c)) (((c.address + j) * intervals_of d + i) % 2 ^ 32) (place_at d c j i).tag)
 
 -- "With code 000 the buffer holds T × B bytes": the data of interval i in block j
 abbrev pub user_data_at : Description → List ℕ → ℕ → ℕ → List ℕ

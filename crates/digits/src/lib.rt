@@ -2,8 +2,10 @@
 #![tactic(auto)]
 
 ghost use Rattle.std.specs.Prelude.{◌≡◌, ◌+◌, ◌≤◌, ◌<◌, ◌^◌};
-ghost use Rattle.writing.specs.Laid.{Written};
+ghost use Rattle.writing.specs.Printed.{Printed};
 ghost use Rattle.digits.specs.Digits.{digit, hexadecimal, decimal_in, decimal};
+
+use writing::Pen;
 
 // The digit that stands for a number below sixteen.
 fn digit(n: u64) -> u8
@@ -17,36 +19,38 @@ fn digit(n: u64) -> u8
 }
 
 // The low `k` hexadecimal digits of `n`.
-pub fn hexadecimal(out: &mut [u8], at: usize, k: usize, n: u64) -> usize
-    requires { at + k ≤ 2 ^ 32 }
-    ensures { Written (hexadecimal k n) at out.old result out.new }
+// Kept: it calls itself, and so does `decimal_in`, since the digit that is worked out first is printed last.
+pub fn hexadecimal(pen: &mut Pen, k: usize, n: u64)
+    requires { pen.old.at + k ≤ 2 ^ 32 }
+    ensures { Printed (hexadecimal k n) pen.old pen.new }
 {
     if k == 0 {
-        return at;
+        return;
     }
-    let end = hexadecimal(out, at, k - 1, n / 16);
-    writing::put(out, end, digit(n % 16))
+    hexadecimal(pen, k - 1, n / 16);
+    pen.put(digit(n % 16));
 }
 
 // The digits of `n`, of which there are at most `k`.
-fn decimal_in(out: &mut [u8], at: usize, k: usize, n: u64) -> usize
-    requires { at + k ≤ 2 ^ 32 }
-    ensures { Written (decimal_in k n) at out.old result out.new }
+fn decimal_in(pen: &mut Pen, k: usize, n: u64)
+    requires { pen.old.at + k ≤ 2 ^ 32 }
+    ensures { Printed (decimal_in k n) pen.old pen.new }
 {
     if k == 0 {
-        return at;
+        return;
     }
     if n < 10 {
-        return writing::put(out, at, digit(n));
+        pen.put(digit(n));
+        return;
     }
-    let end = decimal_in(out, at, k - 1, n / 10);
-    writing::put(out, end, digit(n % 10))
+    decimal_in(pen, k - 1, n / 10);
+    pen.put(digit(n % 10));
 }
 
 // A number, in as few digits as it needs.
-pub fn decimal(out: &mut [u8], at: usize, n: u64) -> usize
-    requires { at + 20 ≤ 2 ^ 32 }
-    ensures { Written (decimal n) at out.old result out.new }
+pub fn decimal(pen: &mut Pen, n: u64)
+    requires { pen.old.at + 20 ≤ 2 ^ 32 }
+    ensures { Printed (decimal n) pen.old pen.new }
 {
-    decimal_in(out, at, 20, n)
+    decimal_in(pen, 20, n);
 }

@@ -1,20 +1,20 @@
 -- From what an admitted command's parts did to the command's outcome.
 -- Assumes nothing.
 use mathlib.Core.Path.{◌≡◌, refl, sym, ap, ◌∙◌}
-use mathlib.Core.Bool.{Bool, true, false, not}
+use mathlib.Core.Bool.{true, false}
 use mathlib.Core.List.{List}
 use Prim.Native.Nat.{ℕ, ◌+◌, ◌-◌, ◌≤◌}
 use native.Mathlib.Omega.{arith}
-use borrow.Author.Tests.{eqb-false, not-true, not-false}
+use borrow.Author.Tests.{eqb-false, not-true}
 use lib.ListN.{length, take, drop}
 use Rattle.words.specs.Parts.{put}
 use Rattle.words.proofs.BigEndian.{part_length}
 use Rattle.words.proofs.Choice.{never}
-use Rattle.answer.specs.Answer.{is_good}
+use Rattle.std.specs.Prelude.{Ok, Err}
+use Rattle.answer.specs.Answer.{Answer, good}
+use Rattle.answer.specs.declared.Refusal.{Refusal}
 use Rattle.answer.specs.Outcome.{outcome}
-use Rattle.answer.specs.declared.Answer.{Answer}
 use Rattle.segment.specs.declared.Description.{Description}
-use Rattle.segment.specs.Segment.{Segment}
 use Rattle.segment.specs.Places.{offset_of, span_of, blocks_from}
 use Rattle.segment.proofs.Places.{span_within}
 use Rattle.command.specs.declared.Command.{Command}
@@ -26,7 +26,6 @@ use Rattle.refusal.proofs.Rules.{room_moved, room_compared}
 use Rattle.sides.specs.declared.Side.TheVariants.{Sent}
 use Rattle.sides.specs.Sides.{checks_on}
 use Rattle.sides.proofs.Laws.{checks_all, as_write_lem}
-use Rattle.admission.specs.declared.Admitted.TheVariants.{Refused, Go}
 use Rattle.admission.specs.Admission.{admitted}
 use Rattle.admission.specs.Ready.{Ready}
 use Rattle.execute.specs.Lent.{Lent, lent, lengths_of}
@@ -40,8 +39,8 @@ module _ {d : Description} {c : Command} {l : Lengths} (r : Ready d c l) where
   pub short : c.length ≤ 65536
   short = omega (arith, r.from, r.to, r.described.count)
 
-  pub located : (Segment d) × (d.first ≤ c.address) × (c.address ≤ d.first + d.count)
-  located = (r.described, r.from, omega (arith, r.to))
+  pub located : (d.first ≤ c.address) × (c.address ≤ d.first + d.count)
+  located = (r.from, omega (arith, r.to))
 
   pub shaped : Shaped d c
   shaped = record { described = r.described; few = short; end = omega (arith, r.to, r.described.end) }
@@ -101,26 +100,26 @@ module _ (d : Description) (c : Command) (segment buffer : List ℕ) where
   verify_moved o = by_operation Verify o _ refl
 
 -- ---- judged and compared, and then moved
-module _ (d : Description) (c : Command) (segment buffer stored : List ℕ) (a : Answer) (g : Bool) (s : stored ≡ blocks_of d c segment)
-    (e : a ≡ verdict d c buffer stored) (t : g ≡ is_good a) where
-  verdict_is : a ≡ verdict d c buffer (blocks_of d c segment)
-  verdict_is = e ∙ ap (verdict d c buffer) s
+module _ (d : Description) (c : Command) (segment buffer stored : List ℕ) (s : stored ≡ blocks_of d c segment) where
+  verdict_is : {a : Answer} → a ≡ verdict d c buffer stored → a ≡ verdict d c buffer (blocks_of d c segment)
+  verdict_is e = e ∙ ap (verdict d c buffer) s
 
-  pub refused_performed : not g ≡ true → outcome a (lent segment buffer) ≡ performed d c (lent segment buffer)
+  pub refused_performed : (e : Refusal) → Err e ≡ verdict d c buffer stored → outcome (Err e) (lent segment buffer) ≡ performed d c (lent segment buffer)
   unfolding performed
-  refused_performed n = rw (← verdict_is, sym t ∙ not-true g n)
+  refused_performed e v = rw (← verdict_is v) refl
 
-  pub good_performed : not g ≡ false → (left : Lent) → left ≡ moved d c (lent segment buffer) → outcome a left ≡ performed d c (lent segment buffer)
+  pub good_performed : good ≡ verdict d c buffer stored → (left : Lent) → left ≡ moved d c (lent segment buffer)
+      → outcome good left ≡ performed d c (lent segment buffer)
   unfolding performed
-  good_performed n left m = rw (← verdict_is, sym t ∙ not-false g n) (ap (outcome a) m)
+  good_performed v left m = rw (← verdict_is v) (ap (outcome good) m)
 
 -- ---- by what admission decided
 module _ (d : Description) (command : List ℕ) (l : Lent) where
-  pub refused_outcome : (a : Answer) → admitted d (lengths_of l) command ≡ Refused a → outcome a l ≡ executed d command l
+  pub refused_outcome : (e : Refusal) → Err e ≡ admitted d (lengths_of l) command → outcome (Err e) l ≡ executed d command l
   unfolding executed
-  refused_outcome a e = rw e
+  refused_outcome e h = rw (← h) refl
 
-  pub went_outcome : (c : Command) (a : Answer) (left : Lent) → admitted d (lengths_of l) command ≡ Go c → outcome a left ≡ performed d c l
+  pub went_outcome : (c : Command) (a : Answer) (left : Lent) → Ok c ≡ admitted d (lengths_of l) command → outcome a left ≡ performed d c l
       → outcome a left ≡ executed d command l
   unfolding executed
-  went_outcome c a left e h = h ∙ rw e
+  went_outcome c a left e h = h ∙ rw (← e) refl

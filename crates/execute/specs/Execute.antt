@@ -1,5 +1,5 @@
 -- What a command does: its answer, and every lent byte afterwards.
-use Rattle.std.specs.Prelude.{ℕ, List}
+use Rattle.std.specs.Prelude.{ℕ, List, Ok, Err}
 use Rattle.words.specs.Parts.{put}
 use Rattle.answer.specs.Outcome.{Outcome, outcome, leaving}
 use Rattle.segment.specs.declared.Description.{Description}
@@ -9,9 +9,7 @@ use Rattle.command.specs.declared.Operation.{Operation}
 use Rattle.command.specs.declared.Operation.TheVariants.{Read, Write, Verify}
 use Rattle.sides.specs.declared.Side.{Side}
 use Rattle.sides.specs.declared.Side.TheVariants.{Sent, Stored}
-use Rattle.admission.specs.declared.Admitted.{Admitted}
-use Rattle.admission.specs.declared.Admitted.TheVariants.{Refused, Go}
-use Rattle.admission.specs.Admission.{admitted}
+use Rattle.admission.specs.Admission.{Decided, admitted}
 use Rattle.transfer.specs.Transfer.{blocks_of, verdict, handed, received}
 use Rattle.execute.specs.Lent.{Lent, lent, lengths_of}
 
@@ -37,9 +35,9 @@ moved d c l = moved_for c.operation d c l
 unfoldable pub performed : Description → Command → Lent → Outcome Lent
 performed d c l = leaving (verdict d c (under_check Sent d c l) (under_check Stored d c l)) l (moved d c l)
 
-abbrev pub executed_as : Admitted → Description → Lent → Outcome Lent
-executed_as (Refused a) d l = outcome a l
-executed_as (Go c) d l = performed d c l
+abbrev pub executed_as : Decided → Description → Lent → Outcome Lent
+executed_as (Err e) d l = outcome (Err e) l
+executed_as (Ok c) d l = performed d c l
 
 -- every command on every description, segment and buffer
 unfoldable pub executed : Description → List ℕ → Lent → Outcome Lent

@@ -2,10 +2,14 @@
 -- answers x and y that the contract permits are one, and so is each byte lent to be written, as the calls leave it in s and in t.
 -- Assumes nothing.
 use mathlib.Core.Path.{◌≡◌, sym, ◌∙◌}
+use Rattle.field.proofs.field_of.Reads as field-of-reads
 use Rattle.field.proofs.stored_guard.Reads as stored-guard-reads
 use Rattle.field.proofs.stored_application.Reads as stored-application-reads
 use Rattle.field.proofs.stored_reference.Reads as stored-reference-reads
 use Rattle.field.proofs.write.Reads as write-reads
+
+pub field_of : (κs : _) (a : _) (x y : _) (s t : _) → field-of-reads.Post κs a x s → field-of-reads.Post κs a y t → x.now ≡ y.now
+field_of κs a x y s t p q = p ∙ sym q
 
 pub stored_guard : (κs : _) (a : _) (x y : _) (s t : _) → stored-guard-reads.Post κs a x s → stored-guard-reads.Post κs a y t → x ≡ y
 stored_guard κs a x y s t p q = p ∙ sym q

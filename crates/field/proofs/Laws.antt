@@ -1,6 +1,6 @@
 -- The laws of an interval's parts, its data and its field, wherever they stand; and of field bytes, as code writes them.
 -- Assumes nothing.
-use mathlib.Core.Path.{◌≡◌, ap, ◌∙◌}
+use mathlib.Core.Path.{◌≡◌, refl, ap, ◌∙◌}
 use mathlib.Core.List.{List, ◌++◌, append_assoc}
 use Prim.Native.Nat.{ℕ, ◌+◌, ◌-◌, ◌*◌, ◌^◌, ◌<◌, ◌≤◌}
 use native.Mathlib.Nat.{add_assoc}
@@ -13,7 +13,7 @@ use Rattle.words.specs.Parts.{Bytes}
 use Rattle.words.specs.Xor.{xors}
 use Rattle.words.proofs.BigEndian.{bytes_length, bytes_joined, number_xors}
 use Rattle.words.proofs.Parts.{part_at, drop_take, take_bytes, part_bytes}
-use Rattle.words.proofs.Runs.{peel_within, peel_rest}
+use Rattle.words.proofs.Runs.{peel_within}
 use Rattle.words.proofs.Xor.{xors_take, xors_drop}
 use Rattle.field.specs.Field.{stored_guard, field_bytes, data_of, field_of}
 
@@ -21,21 +21,14 @@ use Rattle.field.specs.Field.{stored_guard, field_bytes, data_of, field_of}
 pub interval_within : (k i size n : ℕ) → 0 < k → i + k * (size + 8) ≡ n → i + size + 8 ≤ n
 interval_within k i size n h e = rw (add_assoc i size 8) (peel_within k i (size + 8) n h e)
 
-pub interval_rest : (k i size n : ℕ) → 0 < k → i + k * (size + 8) ≡ n → i + size + 8 + (k - 1) * (size + 8) ≡ n
-interval_rest k i size n h e = rw (add_assoc i size 8) (peel_rest k i (size + 8) n h e)
-
 pub data_part : (i size : ℕ) (s : List ℕ) → take (i + size - i) (drop i s) ≡ data_of size (drop i s)
 unfolding data_of
 data_part = part_at
 
-pub field_part : (i size : ℕ) (s : List ℕ) → take (i + size + 8 - (i + size)) (drop (i + size) s) ≡ field_of size (drop i s)
+-- the field that stands behind the data of an interval that begins at i
+pub field_behind : (i size : ℕ) (s : List ℕ) → field_of (i + size) s ≡ field_of size (drop i s)
 unfolding field_of
-field_part i size s = rw drop-drop (part_at (i + size) 8 s)
-
--- the bytes behind the data of an interval that is all there is
-pub field_whole : (size : ℕ) (s : List ℕ) → size + 8 ≡ length s → take (length s - size) (drop size s) ≡ field_of size s
-unfolding field_of
-field_whole size s e = let eight : length s - size ≡ 8 = omega arith in rw eight
+field_behind i size s = rw drop-drop refl
 
 -- an interval's parts are its own bytes
 pub own_data : (size : ℕ) (s : List ℕ) → data_of size (take (size + 8) s) ≡ data_of size s

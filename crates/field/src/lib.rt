@@ -1,25 +1,30 @@
 // The eight field bytes behind an interval's data, read and written.
 #![tactic(auto)]
 
-ghost use Rattle.std.specs.Prelude.{◌≡◌, length};
-ghost use Rattle.field.specs.Field.{stored_guard, stored_application, stored_reference, field_bytes};
+ghost use Rattle.std.specs.Prelude.{◌≡◌, ◌+◌, ◌≤◌, length};
+ghost use Rattle.field.specs.Field.{field_of, stored_guard, stored_application, stored_reference, field_bytes};
 
-pub fn stored_guard(field: &[u8]) -> u16
-    requires { length field.now ≡ 8 }
+// The field that stands behind `at` bytes.
+pub fn field_of(s: &[u8], at: usize) -> &[u8; 8]
+    requires { at + 8 ≤ length s.now }
+    ensures { result.now ≡ field_of at s.now }
+{
+    s[at..].first_chunk().unwrap()
+}
+
+pub fn stored_guard(field: &[u8; 8]) -> u16
     ensures { result ≡ stored_guard field.now }
 {
     words::read2(field, 0)
 }
 
-pub fn stored_application(field: &[u8]) -> u16
-    requires { length field.now ≡ 8 }
+pub fn stored_application(field: &[u8; 8]) -> u16
     ensures { result ≡ stored_application field.now }
 {
     words::read2(field, 2)
 }
 
-pub fn stored_reference(field: &[u8]) -> u32
-    requires { length field.now ≡ 8 }
+pub fn stored_reference(field: &[u8; 8]) -> u32
     ensures { result ≡ stored_reference field.now }
 {
     words::read4(field, 4)

@@ -6,7 +6,7 @@ ghost use Rattle.answer.specs.Outcome.{outcome};
 ghost use Rattle.filling.specs.Fresh.{filled, fresh_interval, fresh_intervals};
 
 use answer::Answer;
-use segment::Description;
+use segment::{Description, Segment};
 
 // Makes `d` a fresh interval of `size` data bytes: data zero, every field byte FFh.
 fn fill_interval(d: &mut [u8], size: usize)
@@ -22,13 +22,10 @@ fn fill_intervals(d: &mut [u8], size: usize, count: usize)
     requires { count * (size + 8) ≡ length d.old }
     ensures { d.new ≡ fresh_intervals size count }
 {
-    let mut left = count;
-    let mut at: usize = 0;
-    while 0 < left {
+    for i in 0..count {
+        let at = i * (size + 8);
         let end = at + (size + 8);
         fill_interval(&mut d[at..end], size);
-        at = end;
-        left -= 1;
     }
 }
 
@@ -36,16 +33,12 @@ fn fill_intervals(d: &mut [u8], size: usize, count: usize)
 pub fn fill(d: Description, segment: &mut [u8]) -> Answer
     ensures { outcome result segment.new ≡ filled d segment.old }
 {
-    let a = segment::segment_rules(d, segment.len());
-    if !answer::is_good(a) {
-        return a;
-    }
+    let s = Segment::of_bytes(d, segment.len())?;
     if d.kind == 0 {
         words::fill_with(segment, 0);
-        return Answer::Good;
+        return Ok(());
     }
-    let size = segment::size(d);
-    let count = d.count as usize * segment::intervals(d);
-    fill_intervals(segment, size, count);
-    Answer::Good
+    let count = d.count as usize * s.intervals();
+    fill_intervals(segment, s.size(), count);
+    Ok(())
 }

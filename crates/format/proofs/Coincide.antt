@@ -3,6 +3,10 @@
 -- Assumes nothing.
 use mathlib.Core.Path.{◌≡◌, sym, ◌∙◌}
 use Rattle.format.proofs.choice_of.Reads as choice-of-reads
+use Rattle.format.proofs.kind.Reads as kind-reads
 
 pub choice_of : (κs : _) (a : _) (x y : _) (s t : _) → choice-of-reads.Post κs a x s → choice-of-reads.Post κs a y t → x ≡ y
 choice_of κs a x y s t p q = p ∙ sym q
+
+pub kind : (κs : _) (a : _) (x y : _) (s t : _) → kind-reads.Post κs a x s → kind-reads.Post κs a y t → x ≡ y
+kind κs a x y s t p q = p ∙ sym q

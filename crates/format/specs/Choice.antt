@@ -1,9 +1,9 @@
 -- "From SPT, PROTECT, FMTPINFO and usage (0-7, 0-1, 0-3, 0-7; outside these 6), after 002": its table 9, row by row.
-use Rattle.std.specs.Prelude.{ℕ, Bool, true, false, not, ◌&&◌, ◌||◌, cond, List, [], ◌∷◌, eqb, leb, ltb}
-use Rattle.answer.specs.declared.Answer.TheVariants.{Good, Refused}
+use Rattle.std.specs.Prelude.{ℕ, Bool, true, false, not, ◌&&◌, ◌||◌, cond, List, [], ◌∷◌, eqb, leb, ltb, Result, Ok, Err}
+use Rattle.answer.specs.declared.Refusal.{Refusal}
+use Rattle.answer.specs.declared.Refusal.TheVariants.{Refused}
 use Rattle.answer.specs.declared.Reason.{Reason}
 use Rattle.answer.specs.declared.Reason.TheVariants.{FieldInvalid, ParameterInvalid}
-use Rattle.format.specs.declared.Choice.{Choice}
 
 -- an entry of the table: any value, one of some values, or any above a value
 pub data Entry : Type 0 where
@@ -20,6 +20,10 @@ meets any n = true
 meets (only vs) n = one_of vs n
 meets (above v) n = ltb v n
 
+-- "Answer 0 comes with the type", a refusal with none
+abbrev pub Choice : Type 0
+Choice = Result ℕ Refusal
+
 pub record Row : Type 0 where
   pub spt : Entry
   pub protect : Entry
@@ -27,13 +31,17 @@ pub record Row : Type 0 where
   pub usage : Entry
   pub gives : Choice
 
--- "Answer 0 comes with the type; a refusal comes with type 0."
 abbrev pub formatted : ℕ → Choice
-formatted t = record { answer = Good; kind = t }
+formatted t = Ok t
 
 -- "Illegal": in the command, or in the parameter list
 abbrev pub illegal : Reason → Choice
-illegal r = record { answer = Refused r; kind = 0 }
+illegal r = Err (Refused r)
+
+-- "Answer 0 comes with the type; a refusal comes with type 0."
+abbrev pub kind_of : Choice → ℕ
+kind_of (Ok t) = t
+kind_of (Err e) = 0
 
 abbrev pub row : Entry → Entry → Entry → Entry → Choice → Row
 row s p f u g = record { spt = s; protect = p; fmtpinfo = f; usage = u; gives = g }

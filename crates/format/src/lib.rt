@@ -2,35 +2,23 @@
 #![tactic(auto)]
 
 ghost use Rattle.std.specs.Prelude.{◌≡◌};
-ghost use Rattle.format.specs.Choice.{choice_of, in_range, sentences, supports, by_usage, illegal};
+ghost use Rattle.format.specs.Choice.{choice_of, in_range, sentences, supports, by_usage, illegal, kind_of};
 
-use answer::{Answer, Reason};
+use answer::{Reason, Refusal};
 
-// The answer, and the type that goes with answer 0; a refusal has type 0.
-#[derive(Clone, Copy)]
-pub struct Choice {
-    pub answer: Answer,
-    pub kind: u64,
-}
-
-fn illegal(reason: Reason) -> Choice
+// Kept: with it the sentences below read as the document's.
+fn illegal(reason: Reason) -> Result<u64, Refusal>
     ensures { result ≡ illegal reason }
 {
-    Choice {
-        answer: Answer::Refused(reason),
-        kind: 0,
-    }
+    Err(Refusal::Refused(reason))
 }
 
 // A type that one usage alone gives.
-fn by_usage(usage: u64, wanted: u64, kind: u64) -> Choice
+fn by_usage(usage: u64, wanted: u64, kind: u64) -> Result<u64, Refusal>
     ensures { result ≡ by_usage usage wanted kind }
 {
     if usage == wanted {
-        return Choice {
-            answer: Answer::Good,
-            kind,
-        };
+        return Ok(kind);
     }
     illegal(Reason::ParameterInvalid)
 }
@@ -38,18 +26,16 @@ fn by_usage(usage: u64, wanted: u64, kind: u64) -> Choice
 fn supports(protect: u64, spt: u64) -> bool
     ensures { result ≡ supports protect spt }
 {
-    let listed = words::either(spt == 0, words::either(spt == 1, spt == 3));
-    words::both(protect != 0, listed)
+    protect != 0 && matches!(spt, 0 | 1 | 3)
 }
 
 fn in_range(spt: u64, protect: u64, fmtpinfo: u64, usage: u64) -> bool
     ensures { result ≡ in_range spt protect fmtpinfo usage }
 {
-    let numbers = words::both(fmtpinfo <= 3, usage <= 7);
-    words::both(spt <= 7, words::both(protect <= 1, numbers))
+    spt <= 7 && protect <= 1 && fmtpinfo <= 3 && usage <= 7
 }
 
-fn sentences(spt: u64, protect: u64, fmtpinfo: u64, usage: u64) -> Choice
+fn sentences(spt: u64, protect: u64, fmtpinfo: u64, usage: u64) -> Result<u64, Refusal>
     ensures { result ≡ sentences spt protect fmtpinfo usage }
 {
     if fmtpinfo == 0 {
@@ -74,11 +60,18 @@ fn sentences(spt: u64, protect: u64, fmtpinfo: u64, usage: u64) -> Choice
 }
 
 // The type that a FORMAT UNIT command asks for. Any numbers.
-pub fn choice_of(spt: u64, protect: u64, fmtpinfo: u64, usage: u64) -> Choice
+pub fn choice_of(spt: u64, protect: u64, fmtpinfo: u64, usage: u64) -> Result<u64, Refusal>
     ensures { result ≡ choice_of spt protect fmtpinfo usage }
 {
     if in_range(spt, protect, fmtpinfo, usage) {
         return sentences(spt, protect, fmtpinfo, usage);
     }
     illegal(Reason::FieldInvalid)
+}
+
+// The type that goes with the answer: a refusal comes with type 0.
+pub fn kind(choice: Result<u64, Refusal>) -> u64
+    ensures { result ≡ kind_of choice }
+{
+    choice.unwrap_or(0)
 }

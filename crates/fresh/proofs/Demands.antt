@@ -1,5 +1,6 @@
 -- A freshly filled segment of types 1 to 3 reads good under every code that its type allows, every interval skipped.
 -- Assumes nothing.
+use Rattle.std.specs.Prelude.{Ok}
 use mathlib.Core.Path.{◌≡◌, refl, sym, ap, ◌∙◌}
 use mathlib.Core.Bool.{Bool, true, false, cond}
 use mathlib.Core.List.{List}
@@ -11,10 +12,10 @@ use lib.Dec.{eqb}
 use lib.ListN.{length, replicate}
 use Rattle.words.specs.BigEndian.{number_from, number, number_at}
 use Rattle.answer.specs.Answer.{is_good}
-use Rattle.answer.specs.declared.Answer.TheVariants as answers
+use Rattle.answer.specs.Answer as answers
 use Rattle.answer.proofs.Ladder.{or_else_good}
 use Rattle.segment.specs.declared.Description.{Description}
-use Rattle.segment.specs.Segment.{Segment, intervals_of, size_of, stored_of}
+use Rattle.segment.specs.Segment.{IsSegment, intervals_of, size_of, stored_of}
 use Rattle.segment.specs.Places.{interval_at}
 use Rattle.segment.proofs.Laws.{sizes}
 use Rattle.segment.proofs.Rules.{described_rule, length_right}
@@ -25,7 +26,6 @@ use Rattle.command.specs.declared.Operation.TheVariants.{Read, Write}
 use Rattle.command.specs.Compares.{is_verify, compares}
 use Rattle.command.proofs.CommandLaws.{not_verify, other_bits}
 use Rattle.decoding.specs.Commands.{decode}
-use Rattle.decoding.specs.declared.Decoded.TheVariants.{Served}
 use Rattle.interval.specs.declared.Escape.{Escape}
 use Rattle.interval.specs.declared.Escape.TheVariants.{Tag, Both}
 use Rattle.field.specs.Field.{stored_application, stored_reference, field_of}
@@ -42,7 +42,6 @@ use Rattle.filling.specs.Fresh.{fresh_intervals, filled}
 use Rattle.refusal.specs.declared.Lengths.{Lengths}
 use Rattle.refusal.specs.Refusal.{check_rule, moved_of, size_rule, buffer_of, buffer_rule, refusal}
 use Rattle.refusal.proofs.Rules.{moved_plain, moved_whole, moved_most, room_moved}
-use Rattle.admission.specs.declared.Admitted.TheVariants.{Go}
 use Rattle.admission.specs.Admission.{admitted}
 use Rattle.admission.specs.Ready.{Ready}
 use Rattle.admission.proofs.Ready.{admitted_served, admitted_ready}
@@ -84,8 +83,8 @@ read_no_write o r w = let z : ◌≡◌ {A = ℕ} 0 1 = cc in omega arith
 
 -- ---- every READ, and every VERIFY that does not compare, of a fresh segment that goes on
 module _ (d : Description) (old command buffer : List ℕ) (c : Command)
-    (good : (filled d old).answer ≡ answers.Good) (fields : d.kind ≡ 0 → ⊥)
-    (in_order : admitted d (lengths_of (lent (filled d old).left buffer)) command ≡ Go c) where
+    (good : (filled d old).answer ≡ answers.good) (fields : d.kind ≡ 0 → ⊥)
+    (in_order : admitted d (lengths_of (lent (filled d old).left buffer)) command ≡ Ok c) where
   ready : Ready d c (lengths_of (lent (filled d old).left buffer))
   ready = admitted_ready d (lengths_of (lent (filled d old).left buffer)) command c in_order
 
@@ -105,14 +104,14 @@ module _ (d : Description) (old command buffer : List ℕ) (c : Command)
       let some = (sizes d ready.described).intervals_least in
       first_escapes (rules_of Stored d c).escape (size_of d) (intervals_of d) _ some (rw zero-mul at (every_interval_skipped j 0 h some))
 
-  blocks_good : judge_blocks (rules_of Stored d c) c.length (start_of d c) (blocks_of d c (filled d old).left) ≡ answers.Good
+  blocks_good : judge_blocks (rules_of Stored d c) c.length (start_of d c) (blocks_of d c (filled d old).left) ≡ answers.good
   unfolding judge_blocks rules_of
   blocks_good =
       (first_good (judge_block (rules_of Stored d c)) (next_block (intervals_of d)) (intervals_of d * (size_of d + 8)) c.length (start_of d c) _).1
       (λ j h. block_escaped (rules_of Stored d c) _ _ (every_block_skipped j h))
 
   module _ (no_write : c.operation ≡ Write → ⊥) (off : compares c ≡ false) where
-    judged_good : judged d c buffer (blocks_of d c (filled d old).left) ≡ answers.Good
+    judged_good : judged d c buffer (blocks_of d c (filled d old).left) ≡ answers.good
     unfolding judged
     judged_good =
         (or_else_good (judged_on Sent d c buffer) _).1 (
@@ -120,7 +119,7 @@ module _ (d : Description) (old command buffer : List ℕ) (c : Command)
           judged_all Stored d c _ fields (stored_all c.operation c no_write off) ∙ blocks_good,
         )
 
-    pub fresh_reads_good : (executed d command (lent (filled d old).left buffer)).answer ≡ answers.Good
+    pub fresh_reads_good : (executed d command (lent (filled d old).left buffer)).answer ≡ answers.good
     unfolding executed performed verdict
     fresh_reads_good =
         rw in_order ((or_else_good (judged d c buffer (blocks_of d c (filled d old).left)) _).1 (judged_good, compared_none d c _ _ off))
@@ -136,7 +135,7 @@ module _ (d : Description) (old command buffer : List ℕ) (c : Command)
       ∙ zeros (size_of d) (c.length * intervals_of d) ∙ ap (λ (x : ℕ). replicate x 0x00) (sym room)
 
 -- ---- and every one with a code that the type allows goes on
-module _ (d : Description) (c : Command) (s : Segment d) where
+module _ (d : Description) (c : Command) (s : IsSegment d) where
   moved_fits : c.length ≤ 65536 → moved_of d c ≤ 4294967295
   moved_fits h = by (eqb c.code 0) refl
     where
@@ -148,7 +147,7 @@ module _ (d : Description) (c : Command) (s : Segment d) where
       by false e = rw (moved_whole d c (eqb-false c.code 0 e)) (omega (arith, most.1))
 
   not_refused : (b : Lengths) → (d.kind ≡ 0 → ⊥) → Allowed d c → c.check ≡ 0
-      → d.first ≤ c.address → c.address + c.length ≤ d.first + d.count → b.buffer ≡ buffer_of d c → refusal d c b ≡ answers.Good
+      → d.first ≤ c.address → c.address + c.length ≤ d.first + d.count → b.buffer ≡ buffer_of d c → refusal d c b ≡ answers.good
   unfolding refusal check_rule size_rule buffer_rule
   not_refused b fields allowed check from to room =
       let passed = (codes_allowed d c fields).1 allowed in
@@ -163,10 +162,10 @@ module _ (d : Description) (c : Command) (s : Segment d) where
       )
 
 module _ (d : Description) (old command buffer : List ℕ) (c : Command)
-    (good : (filled d old).answer ≡ answers.Good) (fields : d.kind ≡ 0 → ⊥)
-    (served : decode command ≡ Served c) (allowed : Allowed d c) (check : c.check ≡ 0)
+    (good : (filled d old).answer ≡ answers.good) (fields : d.kind ≡ 0 → ⊥)
+    (served : decode command ≡ Ok c) (allowed : Allowed d c) (check : c.check ≡ 0)
     (from : d.first ≤ c.address) (to : c.address + c.length ≤ d.first + d.count) (room : length buffer ≡ buffer_of d c) where
-  pub allowed_goes_on : admitted d (lengths_of (lent (filled d old).left buffer)) command ≡ Go c
+  pub allowed_goes_on : admitted d (lengths_of (lent (filled d old).left buffer)) command ≡ Ok c
   unfolding admitted
   allowed_goes_on =
       rw (
@@ -175,5 +174,5 @@ module _ (d : Description) (old command buffer : List ℕ) (c : Command)
         not_refused d c (filled_facts d old good) (lengths_of (lent (filled d old).left buffer)) fields allowed check from to room,
       )
 
-  pub allowed_reads_good : (c.operation ≡ Write → ⊥) → (executed d command (lent (filled d old).left buffer)).answer ≡ answers.Good
+  pub allowed_reads_good : (c.operation ≡ Write → ⊥) → (executed d command (lent (filled d old).left buffer)).answer ≡ answers.good
   allowed_reads_good no_write = fresh_reads_good d old command buffer c good fields allowed_goes_on no_write (other_bits c (λ one. omega (arith, check, one)))

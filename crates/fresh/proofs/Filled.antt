@@ -8,10 +8,10 @@ use native.Mathlib.Omega.{arith}
 use borrow.Author.Tests.{ne_eqb}
 use lib.ListN.{length}
 use Rattle.answer.specs.Answer.{is_good}
-use Rattle.answer.specs.declared.Answer.TheVariants as answers
+use Rattle.answer.specs.Answer as answers
 use Rattle.answer.proofs.Demands.{good_leaves}
 use Rattle.segment.specs.declared.Description.{Description}
-use Rattle.segment.specs.Segment.{Segment, intervals_of, size_of, stored_of, length_of}
+use Rattle.segment.specs.Segment.{IsSegment, intervals_of, size_of, stored_of, length_of}
 use Rattle.segment.specs.Rules.{segment_rules}
 use Rattle.segment.specs.Places.{offset_of, span_of, blocks_from}
 use Rattle.segment.proofs.Places.{span_flat}
@@ -22,7 +22,7 @@ use Rattle.transfer.specs.Transfer.{blocks_of}
 use Rattle.fresh.proofs.Runs.{middle, run_length}
 
 -- ---- n blocks of intervals, by intervals
-module _ (d : Description) (s : Segment d) (fields : d.kind ≡ 0 → ⊥) where
+module _ (d : Description) (s : IsSegment d) (fields : d.kind ≡ 0 → ⊥) where
   blocks_flat : (n : ℕ) → n * stored_of d ≡ n * intervals_of d * (size_of d + 8)
   unfolding span_of
   blocks_flat n = sym (span_flat d s n fields)
@@ -44,12 +44,12 @@ module _ (d : Description) (s : Segment d) (fields : d.kind ≡ 0 → ⊥) where
       rw (blocks_flat a, blocks_flat c.length, all) (middle (size_of d) (a * n) (c.length * n) (rest * n))
 
 -- ---- what was filled
-module _ (d : Description) (old : List ℕ) (good : (filled d old).answer ≡ answers.Good) where
-  pub filled_rules : segment_rules d (length old) ≡ answers.Good
+module _ (d : Description) (old : List ℕ) (good : (filled d old).answer ≡ answers.good) where
+  pub filled_rules : segment_rules d (length old) ≡ answers.good
   unfolding filled
   filled_rules = good
 
-  pub filled_facts : Segment d
+  pub filled_facts : IsSegment d
   filled_facts = (rules_segment d (length old) (ap is_good filled_rules)).0
 
   pub filled_fresh : (d.kind ≡ 0 → ⊥) → (filled d old).left ≡ fresh_intervals (size_of d) (d.count * intervals_of d)

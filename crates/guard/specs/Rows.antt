@@ -1,5 +1,5 @@
 -- The guard two bytes at a time, through four rows of sixteen numbers. No document asks for them: they are a quicker way to the guard of
--- `Guard`, which the contract of `guard::guard_through_rows` says they lead to.
+-- `Guard`, which the contract of `guard::Rows::guard` says they lead to.
 use Rattle.std.specs.Prelude.{ℕ, ◌+◌, ◌*◌, ◌/◌, ◌%◌, ◌^◌, ◌<◌, ◌≡◌, List, [], ◌∷◌, get_or}
 use Rattle.std.specs.Int.Bits.{bit_xor}
 use Rattle.guard.specs.Guard.{guard}

@@ -25,9 +25,7 @@ fn divide_byte(r: u16, b: u8) -> u16
     ensures { result ≡ divide r (terms 8 b) }
 {
     let mut n = r;
-    let mut k: u8 = 8;
-    while 0 < k {
-        k -= 1;
+    for k in (0..8u8).rev() {
         n = bring_down(n, ((b >> k) % 2) as u16);
     }
     n
@@ -38,10 +36,8 @@ pub fn guard_by_division(data: &[u8]) -> u16
     ensures { result ≡ guard «data».now }
 {
     let mut r: u16 = 0;
-    let mut i: usize = 0;
-    while i < data.len() {
-        r = divide_byte(r, data[i]);
-        i += 1;
+    for b in data {
+        r = divide_byte(r, *b);
     }
     divide_byte(divide_byte(r, 0), 0)
 }
@@ -72,63 +68,61 @@ const TABLE: [u16; 256] = [
     0x42DD, 0xC96A, 0xDE04, 0x55B3,
 ];
 
-// The table, for an entry point to lend to all below it: a table that is named in a loop is copied at every turn.
-pub fn table() -> [u16; 256]
-    ensures { Right result }
-{
-    TABLE
+// The table. An entry point makes one and lends it to all below it: a constant that is named in a loop is copied at every turn.
+#[derive(Drop)]
+pub struct Table {
+    pub entries: [u16; 256],
+    pub ghost right: { Right entries },
 }
 
-// The remainder r with one byte more, through the table.
-fn table_step(t: &[u16; 256], r: u16, b: u8) -> u16
-    ensures { result ≡ table_step t.now r b }
-{
-    let v = (r / 256) as u8 ^ b;
-    (r % 256 * 256) ^ t[v as usize]
-}
+impl Table {
+    pub fn new() -> Table {
+        Table { entries: TABLE }
+    }
 
-// The guard of `data` through a table that the caller lends.
-pub fn guard_through(t: &[u16; 256], data: &[u8]) -> u16
-    requires { Right t.now }
-    ensures { result ≡ guard «data».now }
-{
-    let mut r: u16 = 0;
-    let mut i: usize = 0;
-    while i < data.len() {
-        r = table_step(t, r, data[i]);
-        i += 1;
+    // The remainder r with one byte more.
+    fn step(&self, r: u16, b: u8) -> u16
+        ensures { result ≡ table_step self.now.entries r b }
+    {
+        let v = (r / 256) as u8 ^ b;
+        (r % 256 * 256) ^ self.entries[v as usize]
     }
-    r
-}
 
-// Makes `d` a copy of `data`, which is as long, and hands back its guard. Few bytes go through one loop: the ways into two
-// and out of them would be most of the work.
-pub fn copy_with_guard(t: &[u16; 256], d: &mut [u8], data: &[u8]) -> u16
-    requires right { Right t.now }
-    requires data_len { length «data».now ≡ length d.old }
-    ensures { (result ≡ guard «data».now) × (d.new ≡ «data».now) }
-{
-    if 16 <= data.len() {
-        words::copy(d, data);
-        return guard_through(t, data);
+    // The guard of `data`.
+    pub fn guard(&self, data: &[u8]) -> u16
+        ensures { result ≡ guard «data».now }
+    {
+        let mut r: u16 = 0;
+        for b in data {
+            r = self.step(r, *b);
+        }
+        r
     }
-    let mut r: u16 = 0;
-    let mut i: usize = 0;
-    while i < data.len() {
-        let b = data[i];
-        d[i] = b;
-        r = table_step(t, r, b);
-        i += 1;
+
+    // Makes `d` a copy of `data`, which is as long, and hands back its guard. Few bytes go through one loop: the ways into two
+    // and out of them would be most of the work.
+    pub fn copy(&self, d: &mut [u8], data: &[u8]) -> u16
+        requires { length «data».now ≡ length d.old }
+        ensures { (result ≡ guard «data».now) × (d.new ≡ «data».now) }
+    {
+        if 16 <= data.len() {
+            words::copy(d, data);
+            return self.guard(data);
+        }
+        let mut r: u16 = 0;
+        for (i, &b) in data.iter().enumerate() {
+            d[i] = b;
+            r = self.step(r, b);
+        }
+        r
     }
-    r
 }
 
 // The guard of `data` through the table.
 pub fn guard_by_table(data: &[u8]) -> u16
     ensures { result ≡ guard «data».now }
 {
-    let t = table();
-    guard_through(&t, data)
+    Table::new().guard(data)
 }
 
 // Four rows of sixteen numbers, one behind the other: number n of row k is the guard of the two bytes of n * 16^k.
@@ -141,47 +135,48 @@ const ROWS: [u16; 64] = [
     0xE571, 0x163A, 0x8850, 0x7B1B,
 ];
 
-// The rows, for an entry point to lend to all below it: to copy them takes a quarter of what the table takes.
-pub fn rows() -> [u16; 64]
-    ensures { RightRows result }
-{
-    ROWS
+// The rows. An entry point makes them and lends them to all below it, as the table: to copy them takes a quarter of what it takes.
+#[derive(Drop)]
+pub struct Rows {
+    pub numbers: [u16; 64],
+    pub ghost right: { RightRows numbers },
 }
 
-// Two bytes through the rows: each half byte chooses a number of its row.
-fn rows_step(w: &[u16; 64], v: u16) -> u16
-    ensures { result ≡ rows_step w.now v }
-{
-    let a = v % 16;
-    let b = v / 16 % 16;
-    let c = v / 256 % 16;
-    let d = v / 4096;
-    w[a as usize] ^ w[16 + b as usize] ^ w[32 + c as usize] ^ w[48 + d as usize]
-}
-
-// The guard of the first byte of `data` where the number of its bytes is odd; 0, the guard of no bytes, where it is even.
-fn odd_first(w: &[u16; 64], data: &[u8]) -> u16
-    requires { RightRows w.now }
-    ensures { result ≡ guard (take (length «data».now % 2) «data».now) }
-{
-    if data.len() % 2 == 0 {
-        return 0;
+impl Rows {
+    pub fn new() -> Rows {
+        Rows { numbers: ROWS }
     }
-    rows_step(w, data[0] as u16)
-}
 
-// The guard of `data` through rows that the caller lends: two bytes at a time, behind the first byte where the number
-// of them is odd.
-pub fn guard_through_rows(w: &[u16; 64], data: &[u8]) -> u16
-    requires { RightRows w.now }
-    ensures { result ≡ guard «data».now }
-{
-    let mut r = odd_first(w, data);
-    let mut i = data.len() % 2;
-    while i < data.len() {
-        let v = words::read2(data, i);
-        r = rows_step(w, r ^ v);
-        i += 2;
+    // Two bytes: each half byte chooses a number of its row.
+    fn step(&self, v: u16) -> u16
+        ensures { result ≡ rows_step self.now.numbers v }
+    {
+        let w = &self.numbers;
+        let a = v % 16;
+        let b = v / 16 % 16;
+        let c = v / 256 % 16;
+        let d = v / 4096;
+        w[a as usize] ^ w[16 + b as usize] ^ w[32 + c as usize] ^ w[48 + d as usize]
     }
-    r
+
+    // The guard of the first byte of `data` where the number of its bytes is odd; 0, the guard of no bytes, where it is even.
+    fn odd_first(&self, data: &[u8]) -> u16
+        ensures { result ≡ guard (take (length «data».now % 2) «data».now) }
+    {
+        if data.len() % 2 == 0 {
+            return 0;
+        }
+        self.step(data[0] as u16)
+    }
+
+    // The guard of `data`: two bytes at a time, behind the first byte where the number of them is odd.
+    pub fn guard(&self, data: &[u8]) -> u16
+        ensures { result ≡ guard «data».now }
+    {
+        let mut r = self.odd_first(data);
+        for i in (data.len() % 2..data.len()).step_by(2) {
+            r = self.step(r ^ words::read2(data, i));
+        }
+        r
+    }
 }

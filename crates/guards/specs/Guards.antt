@@ -2,9 +2,8 @@
 use Rattle.std.specs.Prelude.{ℕ, ◌*◌, ◌/◌, ◌%◌, Bool, not, ◌&&◌, List, eqb, ltb, length, take}
 use Rattle.words.specs.BigEndian.{bytes}
 use Rattle.words.specs.Runs.{runs}
-use Rattle.answer.specs.Answer.{refused_if}
+use Rattle.answer.specs.Answer.{Answer, refused_if}
 use Rattle.answer.specs.Outcome.{Outcome, leaving}
-use Rattle.answer.specs.declared.Answer.{Answer}
 use Rattle.answer.specs.declared.Reason.TheVariants as reasons
 use Rattle.guard.specs.Guard.{guard}
 

@@ -12,12 +12,10 @@ use Rattle.insertion.specs.declared.Marks.{Marks}
 use Rattle.insertion.specs.Insertion.{with_field, later, stored_block, stored_blocks}
 
 -- ---- the marks that the code counts on by a wrapping sum
-abbrev pub marks : ℕ → ℕ → ℕ → Marks
-marks application reference step = record { application = application; reference = reference; step = step }
-
-pub marks_later : (k by application reference step sum : ℕ) → by ≡ k * step → sum ≡ (reference + by) % 2 ^ 32
-    → marks application sum step ≡ later k (marks application reference step)
-marks_later k by application reference step sum e w = ap (λ (r : ℕ). marks application r step) (w ∙ ap (λ (n : ℕ). (reference + n) % 2 ^ 32) e)
+pub marks_later : (k by sum : ℕ) (m : Marks) → by ≡ k * m.step → sum ≡ (m.reference + by) % 2 ^ 32
+    → record { application = m.application; reference = sum; step = m.step } ≡ later k m
+marks_later k by sum m e w =
+    ap (λ (r : ℕ). record { application = m.application; reference = r; step = m.step }) (w ∙ ap (λ (n : ℕ). (m.reference + n) % 2 ^ 32) e)
 
 -- ---- lengths
 pub interval_length : (size : ℕ) (m : Marks) (s : List ℕ) → size ≤ length s → length (with_field size m s) ≡ size + 8

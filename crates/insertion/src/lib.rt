@@ -3,8 +3,9 @@
 
 ghost use Rattle.std.specs.Prelude.{◌≡◌, ◌+◌, ◌*◌, ◌≤◌, length};
 ghost use Rattle.words.specs.Parts.{put};
-ghost use Rattle.guard.specs.Table.{Right};
 ghost use Rattle.insertion.specs.Insertion.{with_field, stored_block, stored_blocks};
+
+use guard::Table;
 
 // What goes into the fields beside the guard: the application tag, the reference tag of the next interval, and by how much
 // it goes on.
@@ -16,49 +17,33 @@ pub struct Marks {
 }
 
 // Fills `d`, a stored interval, from its data `s`.
-fn insert_interval(t: &[u16; 256], d: &mut [u8], s: &[u8], m: Marks)
-    requires right { Right t.now }
-    requires s_len { length s.now + 8 ≡ length d.old }
+fn insert_interval(t: &Table, d: &mut [u8], s: &[u8], m: Marks)
+    requires { length s.now + 8 ≡ length d.old }
     ensures { d.new ≡ with_field (length s.now) m s.now }
 {
     let n = s.len();
-    let g = guard::copy_with_guard(t, &mut d[..n], s);
+    let g = t.copy(&mut d[..n], s);
     field::write(&mut d[n..], g, m.application, m.reference);
 }
 
 // Fills `d`, a stored block, from its user data `s`.
-pub fn insert_block(t: &[u16; 256], d: &mut [u8], s: &[u8], size: usize, intervals: usize, m: Marks)
-    requires right { Right t.now }
+pub fn insert_block(t: &Table, d: &mut [u8], s: &[u8], size: usize, intervals: usize, m: Marks)
     requires size_value { intervals * size ≡ length s.now }
     requires size_value_2 { intervals * (size + 8) ≡ length d.old }
     ensures { d.new ≡ stored_block size intervals m s.now }
 {
-    let application = m.application;
-    let step = m.step;
-    let mut reference = m.reference;
-    let mut left = intervals;
-    let mut i: usize = 0;
-    let mut a: usize = 0;
-    while 0 < left {
-        let j = i + size;
-        let e = a + (size + 8);
-        let here = Marks {
-            application,
-            reference,
-            step,
-        };
-        insert_interval(t, &mut d[a..e], &s[i..j], here);
-        reference = std::num::wrapping_add_u32(reference, step);
-        i = j;
-        a = e;
-        left -= 1;
+    let mut here = m;
+    for i in 0..intervals {
+        let from = i * size;
+        let to = i * (size + 8);
+        insert_interval(t, &mut d[to..to + (size + 8)], &s[from..from + size], here);
+        here.reference = here.reference.wrapping_add(here.step);
     }
 }
 
-// Overwrites `count` blocks of the segment, from `at` on, with stored blocks made of the user data in `s`. The middle of the segment is handed on
-// block by block.
+// Overwrites `count` blocks of the segment, from `at` on, with stored blocks made of the user data in `s`.
 pub fn insert_blocks(
-    t: &[u16; 256],
+    t: &Table,
     segment: &mut [u8],
     at: usize,
     s: &[u8],
@@ -67,7 +52,6 @@ pub fn insert_blocks(
     count: usize,
     m: Marks,
 )
-    requires right { Right t.now }
     requires size_value { count * (intervals * size) ≡ length s.now }
     requires size_in_bounds { at + count * (intervals * (size + 8)) ≤ length segment.old }
     requires size_bound { (size ≤ 4096) × (intervals ≤ 8) × (m.step ≤ 1) }
@@ -75,25 +59,13 @@ pub fn insert_blocks(
 {
     let part = intervals * size;
     let stored = intervals * (size + 8);
-    let application = m.application;
-    let step = m.step;
-    let by = intervals as u32 * step;
-    let mut reference = m.reference;
-    let mut left = count;
-    let mut i: usize = 0;
-    let mut a = at;
-    while 0 < left {
-        let j = i + part;
-        let e = a + stored;
-        let here = Marks {
-            application,
-            reference,
-            step,
-        };
-        insert_block(t, &mut segment[a..e], &s[i..j], size, intervals, here);
-        reference = std::num::wrapping_add_u32(reference, by);
-        i = j;
-        a = e;
-        left -= 1;
+    let by = intervals as u32 * m.step;
+    let mut here = m;
+    for i in 0..count {
+        let from = i * part;
+        let to = at + i * stored;
+        let block = &mut segment[to..to + stored];
+        insert_block(t, block, &s[from..from + part], size, intervals, here);
+        here.reference = here.reference.wrapping_add(by);
     }
 }

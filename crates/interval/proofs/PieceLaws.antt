@@ -7,9 +7,8 @@ use Prim.Native.Nat.{ℕ}
 use lib.Dec.{eqb}
 use borrow.Author.Tests.{eqb-false}
 use Rattle.words.proofs.Choice.{never}
-use Rattle.answer.specs.Answer.{number_of}
-use Rattle.answer.specs.declared.Answer.{Answer}
-use Rattle.answer.specs.declared.Answer.TheVariants as answers
+use Rattle.answer.specs.Answer as answers
+use Rattle.answer.specs.Answer.{Answer, number_of}
 use Rattle.answer.specs.declared.Field.TheVariants as fields
 use Rattle.interval.specs.declared.Rules.{Rules}
 use Rattle.interval.specs.declared.Place.{Place}
@@ -20,16 +19,13 @@ use Rattle.interval.specs.Interval.{guard_wrong, application_wrong, reference_wr
 pub checked : (on : Bool) (x y a b : ℕ) → on ≡ true → x ≡ a → y ≡ b → not (eqb x y) ≡ on && not (eqb a b)
 checked on x y a b o p q = rw (o, p, q) refl
 
-pub unchecked : (on b : Bool) → on ≡ false → false ≡ on && b
-unchecked on b o = rw o refl
-
 -- ---- three tests in order
 
 -- "in one interval guard, application, reference": what is answered where these are wrong
 abbrev pub in_turn : Place → Bool → Bool → Bool → Answer
 in_turn p g a f =
-    cond g (answers.Wrong fields.Guard p.address p.interval)
-    (cond a (answers.Wrong fields.Application p.address p.interval) (cond f (answers.Wrong fields.Reference p.address p.interval) answers.Good))
+    cond g (answers.wrong fields.Guard p.address p.interval)
+    (cond a (answers.wrong fields.Application p.address p.interval) (cond f (answers.wrong fields.Reference p.address p.interval) answers.good))
 
 -- answers with different numbers are different
 apart : {G : Type 0} (m n : Answer) → eqb (number_of m) (number_of n) ≡ false → m ≡ n → G
@@ -39,7 +35,7 @@ not_true : {G : Type 0} → true ≡ false → G
 not_true t = absurd (true≢false t)
 
 in_order : (g a f : Bool) (x y : ℕ)
-    → Verdict g a f x y (cond g (answers.Wrong fields.Guard x y) (cond a (answers.Wrong fields.Application x y) (cond f (answers.Wrong fields.Reference x y) answers.Good)))
+    → Verdict g a f x y (cond g (answers.wrong fields.Guard x y) (cond a (answers.wrong fields.Application x y) (cond f (answers.wrong fields.Reference x y) answers.good)))
 in_order true a f x y =
     record {
       guard = (λ e. refl, λ t. refl);

@@ -3,8 +3,8 @@ use Rattle.std.specs.Prelude.{ℕ, zero, suc, ◌+◌, Bool, false, not, ◌&&�
 use Rattle.std.specs.Int.Bits.{bit_and}
 use Rattle.guard.specs.Guard.{guard}
 use Rattle.field.specs.Field.{stored_guard, stored_application, stored_reference, data_of, field_of}
-use Rattle.answer.specs.declared.Answer.{Answer}
-use Rattle.answer.specs.declared.Answer.TheVariants as answers
+use Rattle.answer.specs.Answer as answers
+use Rattle.answer.specs.Answer.{Answer}
 use Rattle.answer.specs.declared.Field.TheVariants as fields
 use Rattle.interval.specs.declared.Escape.{Escape}
 use Rattle.interval.specs.declared.Escape.TheVariants.{Never, Tag, Both}
@@ -36,9 +36,9 @@ reference_wrong r p f = r.reference && not (eqb (stored_reference f) p.tag)
 -- "in one interval guard, application, reference"
 unfoldable pub judge_pieces : Rules → Place → List ℕ → List ℕ → Answer
 judge_pieces r p d f =
-    cond (guard_wrong r d f) (answers.Wrong fields.Guard p.address p.interval)
-    (cond (application_wrong r f) (answers.Wrong fields.Application p.address p.interval)
-    (cond (reference_wrong r p f) (answers.Wrong fields.Reference p.address p.interval) answers.Good))
+    cond (guard_wrong r d f) (answers.wrong fields.Guard p.address p.interval)
+    (cond (application_wrong r f) (answers.wrong fields.Application p.address p.interval)
+    (cond (reference_wrong r p f) (answers.wrong fields.Reference p.address p.interval) answers.good))
 
 unfoldable pub judge_interval : Rules → Place → List ℕ → Answer
 judge_interval r p s = judge_pieces r p (data_of r.size s) (field_of r.size s)

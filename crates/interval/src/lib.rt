@@ -2,10 +2,10 @@
 #![tactic(auto)]
 
 ghost use Rattle.std.specs.Prelude.{◌≡◌, ◌+◌, ◌*◌, length};
-ghost use Rattle.guard.specs.Table.{Right};
 ghost use Rattle.interval.specs.Interval.{escapes, any_escapes, guard_wrong, application_wrong, reference_wrong, judge_pieces};
 
-use answer::{Answer, Field};
+use answer::{Answer, Field, Refusal};
+use guard::Table;
 
 // What lifts all checks from a block: nothing, an application tag FFFFh, or that with a reference tag FFFFFFFFh.
 #[derive(Clone, Copy)]
@@ -15,6 +15,8 @@ pub enum Escape {
     Both,
 }
 
+// Kept: the table travels with it, and not in it: in a clause a struct that holds what is lent has one value as a call begins and one
+// as it ends (`r.entry`), and each contract would be longer.
 // How intervals are judged: those of a block and their data bytes; which fields are checked; the expected application tag
 // and its mask; the escape.
 #[derive(Clone, Copy)]
@@ -38,19 +40,14 @@ pub struct Place {
 }
 
 // Whether the field of an interval has the escape.
-pub fn escapes(e: Escape, field: &[u8]) -> bool
-    requires { length field.now ≡ 8 }
+pub fn escapes(e: Escape, field: &[u8; 8]) -> bool
     ensures { result ≡ escapes e field.now }
 {
     match e {
         Escape::Never => false,
         Escape::Tag => field::stored_application(field) == 0xFFFF,
-        Escape::Both => {
-            if field::stored_application(field) != 0xFFFF {
-                return false;
-            }
-            field::stored_reference(field) == 0xFFFF_FFFF
-        }
+        Escape::Both => field::stored_application(field) == 0xFFFF
+            && field::stored_reference(field) == 0xFFFF_FFFF,
     }
 }
 
@@ -59,68 +56,48 @@ pub fn any_escapes(e: Escape, size: usize, count: usize, s: &[u8]) -> bool
     requires { count * (size + 8) ≡ length s.now }
     ensures { result ≡ any_escapes e size count s.now }
 {
-    let mut left = count;
-    let mut i: usize = 0;
-    while 0 < left {
-        let m = i + size;
-        let end = m + 8;
-        if escapes(e, &s[m..end]) {
+    for k in 0..count {
+        let i = k * (size + 8);
+        if escapes(e, field::field_of(s, i + size)) {
             return true;
         }
-        i = end;
-        left -= 1;
     }
     false
 }
 
 // Whether the guard is checked and is not that of the data.
-fn guard_wrong(t: &[u16; 256], r: Rules, data: &[u8], field: &[u8]) -> bool
-    requires right { Right t.now }
-    requires field_len { length field.now ≡ 8 }
+fn guard_wrong(t: &Table, r: Rules, data: &[u8], field: &[u8; 8]) -> bool
     ensures { result ≡ guard_wrong r «data».now field.now }
 {
-    if r.guard {
-        return field::stored_guard(field) != guard::guard_through(t, data);
-    }
-    false
+    r.guard && field::stored_guard(field) != t.guard(data)
 }
 
 // Whether the application tag is checked and differs from the expected one where the mask has ones.
-fn application_wrong(r: Rules, field: &[u8]) -> bool
-    requires { length field.now ≡ 8 }
+fn application_wrong(r: Rules, field: &[u8; 8]) -> bool
     ensures { result ≡ application_wrong r field.now }
 {
-    if r.application {
-        return field::stored_application(field) & r.mask != r.expected & r.mask;
-    }
-    false
+    r.application && field::stored_application(field) & r.mask != r.expected & r.mask
 }
 
 // Whether the reference tag is checked and differs from the one expected at this place.
-pub fn reference_wrong(r: Rules, p: Place, field: &[u8]) -> bool
-    requires { length field.now ≡ 8 }
+pub fn reference_wrong(r: Rules, p: Place, field: &[u8; 8]) -> bool
     ensures { result ≡ reference_wrong r p field.now }
 {
-    if r.reference {
-        return field::stored_reference(field) != p.tag;
-    }
-    false
+    r.reference && field::stored_reference(field) != p.tag
 }
 
 // One interval, as two pieces: its data and its eight field bytes.
-pub fn judge_pieces(t: &[u16; 256], r: Rules, p: Place, data: &[u8], field: &[u8]) -> Answer
-    requires right { Right t.now }
-    requires field_len { length field.now ≡ 8 }
+pub fn judge_pieces(t: &Table, r: Rules, p: Place, data: &[u8], field: &[u8; 8]) -> Answer
     ensures { result ≡ judge_pieces r p «data».now field.now }
 {
     if guard_wrong(t, r, data, field) {
-        return Answer::Wrong(Field::Guard, p.address, p.interval);
+        return Err(Refusal::Wrong(Field::Guard, p.address, p.interval));
     }
     if application_wrong(r, field) {
-        return Answer::Wrong(Field::Application, p.address, p.interval);
+        return Err(Refusal::Wrong(Field::Application, p.address, p.interval));
     }
     if reference_wrong(r, p, field) {
-        return Answer::Wrong(Field::Reference, p.address, p.interval);
+        return Err(Refusal::Wrong(Field::Reference, p.address, p.interval));
     }
-    Answer::Good
+    Ok(())
 }

@@ -1,8 +1,8 @@
 -- Whether a block is good depends of a place on nothing but the tag, and on that only where it is checked.
 -- Assumes nothing.
 use Rattle.std.proofs.Common.{◌≡◌, ℕ, zero, suc, ◌+◌, ◌%◌, ◌^◌, Bool, true, false, cond, not, ◌&&◌, eqb, List, drop, sym, refl, ap, ◌∙◌, ap₂}
+use Rattle.answer.specs.Answer as answers
 use Rattle.answer.specs.Answer.{is_good}
-use Rattle.answer.specs.declared.Answer.TheVariants as answers
 use Rattle.answer.proofs.Ladder.{good_of_both}
 use Rattle.field.specs.Field.{data_of, field_of, stored_reference}
 use Rattle.interval.specs.declared.Rules.{Rules}
@@ -51,7 +51,7 @@ module _ (r : Rules) where
   unfolding judge_block judge_intervals
   block_alike p q s same = by (any_escapes r.escape r.size r.intervals s)
     where
-      by : (b : Bool) → is_good (cond b answers.Good (first_of (judge_interval r) next_interval (r.size + 8) r.intervals p s))
-          ≡ is_good (cond b answers.Good (first_of (judge_interval r) next_interval (r.size + 8) r.intervals q s))
+      by : (b : Bool) → is_good (cond b answers.good (first_of (judge_interval r) next_interval (r.size + 8) r.intervals p s))
+          ≡ is_good (cond b answers.good (first_of (judge_interval r) next_interval (r.size + 8) r.intervals q s))
       by true = refl
       by false = intervals_alike r.intervals p q s same

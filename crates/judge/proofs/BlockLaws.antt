@@ -4,10 +4,9 @@ use Rattle.std.proofs.Common.{◌≡◌, ℕ, ◌+◌, ◌-◌, ◌*◌, ◌^◌
 use Rattle.words.proofs.Parts.{part_at}
 use Rattle.words.proofs.Runs.{peel_within, peel_rest}
 use Rattle.words.proofs.Turns.{after}
-use Rattle.answer.specs.Answer.{or_else}
+use Rattle.answer.specs.Answer.{or_else, Answer}
 use Rattle.field.proofs.Laws.{own_data, own_field}
-use Rattle.answer.specs.declared.Answer.{Answer}
-use Rattle.answer.specs.declared.Answer.TheVariants as answers
+use Rattle.answer.specs.Answer as answers
 use Rattle.interval.specs.declared.Rules.{Rules}
 use Rattle.interval.specs.declared.Place.{Place}
 use Rattle.interval.specs.Interval.{any_escapes, judge_pieces, judge_interval}
@@ -24,12 +23,12 @@ module _ (r : Rules) where
   pub own_block : (p : Place) (s : List ℕ) → judge_block r p (take (r.intervals * (r.size + 8)) s) ≡ judge_block r p s
   unfolding judge_block judge_intervals
   own_block p s =
-      ap₂ (λ (b : Bool) (a : Answer). cond b answers.Good a) (own_any r.escape r.size r.intervals s)
+      ap₂ (λ (b : Bool) (a : Answer). cond b answers.good a) (own_any r.escape r.size r.intervals s)
       (own_bytes (judge_interval r) next_interval (r.size + 8) own_interval r.intervals p s)
 
 -- ---- a block, by its escape
 module _ (r : Rules) (p : Place) (s : List ℕ) where
-  pub block_escaped : any_escapes r.escape r.size r.intervals s ≡ true → judge_block r p s ≡ answers.Good
+  pub block_escaped : any_escapes r.escape r.size r.intervals s ≡ true → judge_block r p s ≡ answers.good
   unfolding judge_block
   block_escaped e = rw e refl
 

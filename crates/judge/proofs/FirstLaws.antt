@@ -1,9 +1,8 @@
 -- The laws of what is judged piece by piece: one turn of a loop, which piece the answer is of, and which elements it can depend on.
 -- Assumes nothing.
 use Rattle.std.proofs.Common.{◌≡◌, ℕ, zero, suc, ◌+◌, ◌-◌, ◌*◌, ◌<◌, ◌≤◌, true, false, ◌↔◌, List, take, drop, refl, ◌∙◌, ⊎_elim, true≢false, not-suc-le-zero, arith}
-use Rattle.answer.specs.Answer.{is_good, or_else}
-use Rattle.answer.specs.declared.Answer.{Answer}
-use Rattle.answer.specs.declared.Answer.TheVariants as answers
+use Rattle.answer.specs.Answer.{is_good, or_else, Answer}
+use Rattle.answer.specs.Answer as answers
 use Rattle.answer.proofs.Ladder.{good_or, or_else_good, or_else_assoc}
 use Rattle.words.proofs.Turns.{after, piece_at, piece_zero, piece_suc, all_of, turn_of, own_of, every_of, two_of}
 use Rattle.judge.specs.FirstOf.{first_of}
@@ -22,7 +21,7 @@ module _ {A : Type 0} (judge : A → List ℕ → Answer) (next : A → A) (P : 
     pub first_stop : 0 < k → a ≡ judge t (drop i s) → is_good a ≡ false → first_of judge next P k t (drop i s) ≡ whole → a ≡ whole
     first_stop h m g e = rw g at (turn_of judge next P (first_of judge next P) or_else turned k i t s a whole h m e)
 
-  pub first_end : (k : ℕ) (t : A) (s : List ℕ) (whole : Answer) → k ≤ 0 → first_of judge next P k t s ≡ whole → answers.Good ≡ whole
+  pub first_end : (k : ℕ) (t : A) (s : List ℕ) (whole : Answer) → k ≤ 0 → first_of judge next P k t s ≡ whole → answers.good ≡ whole
   unfolding first_of
   first_end zero t s whole h e = e
   first_end (suc k) t s whole h e = absurd (omega arith)
@@ -35,9 +34,9 @@ module _ {A : Type 0} (judge : A → List ℕ → Answer) (next : A → A) (P : 
 
   -- good exactly when every piece is good
   pub first_good : (k : ℕ) (t : A) (s : List ℕ)
-      → (first_of judge next P k t s ≡ answers.Good) ↔ ((j : ℕ) → j < k → piece_at judge next P t s j ≡ answers.Good)
+      → (first_of judge next P k t s ≡ answers.good) ↔ ((j : ℕ) → j < k → piece_at judge next P t s j ≡ answers.good)
   unfolding first_of
-  first_good = every_of judge next P (first_of judge next P) or_else turned answers.Good answers.Good (λ t s. refl) or_else_good
+  first_good = every_of judge next P (first_of judge next P) or_else turned answers.good answers.good (λ t s. refl) or_else_good
 
   -- of k + m pieces the first wrong one is among the k, else among the m behind them
   pub first_two : (k m : ℕ) (t : A) (s : List ℕ)
@@ -49,7 +48,7 @@ module _ {A : Type 0} (judge : A → List ℕ → Answer) (next : A → A) (P : 
   pub record FirstWrong (k : ℕ) (t : A) (s : List ℕ) (a : Answer) : Type 0 where
     pub at : ℕ
     pub within : at < k
-    pub earlier : (j : ℕ) → j < at → piece_at judge next P t s j ≡ answers.Good
+    pub earlier : (j : ℕ) → j < at → piece_at judge next P t s j ≡ answers.good
     pub here : piece_at judge next P t s at ≡ a
     pub wrong : is_good a ≡ false
 
@@ -65,7 +64,7 @@ module _ {A : Type 0} (judge : A → List ℕ → Answer) (next : A → A) (P : 
       (record {
         at = suc f.at;
         within = omega arith;
-        earlier = all_of judge next P answers.Good f.at t s g f.earlier;
+        earlier = all_of judge next P answers.good f.at t s g f.earlier;
         here = piece_suc judge next P t s f.at ∙ f.here;
         wrong = f.wrong;
       }))

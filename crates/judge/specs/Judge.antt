@@ -1,7 +1,7 @@
 -- Which interval of a block, or of a run of blocks, is the first wrong one.
 use Rattle.std.specs.Prelude.{◌≡◌, ℕ, ◌+◌, ◌*◌, ◌%◌, ◌^◌, ◌≤◌, cond, List, length}
-use Rattle.answer.specs.declared.Answer.{Answer}
-use Rattle.answer.specs.declared.Answer.TheVariants as answers
+use Rattle.answer.specs.Answer as answers
+use Rattle.answer.specs.Answer.{Answer}
 use Rattle.interval.specs.declared.Rules.{Rules}
 use Rattle.interval.specs.declared.Place.{Place}
 use Rattle.interval.specs.Interval.{any_escapes, judge_interval}
@@ -26,7 +26,7 @@ judge_intervals r k p s = first_of (judge_interval r) next_interval (r.size + 8)
 
 -- "If any interval of a block has it, no interval of that block is checked."
 unfoldable pub judge_block : Rules → Place → List ℕ → Answer
-judge_block r p s = cond (any_escapes r.escape r.size r.intervals s) answers.Good (judge_intervals r r.intervals p s)
+judge_block r p s = cond (any_escapes r.escape r.size r.intervals s) answers.good (judge_intervals r r.intervals p s)
 
 -- "then intervals in order": k blocks from the place on
 unfoldable pub judge_blocks : Rules → ℕ → Place → List ℕ → Answer

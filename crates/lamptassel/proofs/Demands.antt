@@ -5,9 +5,8 @@ use mathlib.Core.Bool.{false}
 use mathlib.Core.List.{List}
 use Prim.Native.Nat.{ℕ, ◌+◌}
 use borrow.Author.Tests.{ne_eqb}
-use Rattle.answer.specs.Answer.{number_of, is_good}
+use Rattle.answer.specs.Answer.{Answer, answer_of, number_of, is_good}
 use Rattle.answer.specs.Outcome.{leaving}
-use Rattle.answer.specs.declared.Answer.{Answer}
 use Rattle.answer.proofs.Demands.{good_is_zero, refused_leaves}
 use Rattle.segment.specs.declared.Description.{Description}
 use Rattle.execute.specs.Lent.{Lent}

@@ -3,13 +3,12 @@
 use mathlib.Core.Path.{◌≡◌, ap, ◌∙◌}
 use mathlib.Core.List.{List}
 use Prim.Native.Nat.{ℕ}
-use Rattle.answer.specs.Answer.{number_of, address_of, place_of}
+use Rattle.answer.specs.Answer.{Answer, answer_of, number_of, address_of, place_of}
 use Rattle.answer.specs.Outcome.{Outcome, outcome}
-use Rattle.answer.specs.declared.Answer.{Answer}
 use Rattle.segment.specs.declared.Description.{Description}
 use Rattle.execute.specs.Lent.{Lent}
 use Rattle.execute.specs.Execute.{executed}
-use Rattle.format.specs.declared.Choice.{Choice}
+use Rattle.format.specs.Choice.{Choice, kind_of}
 use Rattle.filling.specs.Fresh.{filled}
 use Rattle.scrub.specs.declared.Scrubbed.{Scrubbed}
 use Rattle.scrub.specs.Scrub.{scrubbed}
@@ -52,8 +51,8 @@ pub correct_told : (d d' : Description) (old new parity l : List ℕ) (x : Answe
     → Answered (corrected d' old new parity) r l
 correct_told d d' old new parity = described_told (λ y. corrected y old new parity) d d'
 
-pub chosen_told : (c c' : Choice) (r t : ℕ) → c ≡ c' → r ≡ number_of c.answer → t ≡ c.kind → Chosen c' r t
-chosen_told c c' r t same n k = record { answer = n ∙ ap (λ (y : Choice). number_of y.answer) same; kind = k ∙ ap (λ (y : Choice). y.kind) same }
+pub chosen_told : (c c' : Choice) (r t : ℕ) → c ≡ c' → r ≡ number_of (answer_of c) → t ≡ kind_of c → Chosen c' r t
+chosen_told c c' r t same n k = record { answer = n ∙ ap (λ (y : Choice). number_of (answer_of y)) same; kind = k ∙ ap (λ (y : Choice). kind_of y) same }
 
 pub scrub_told : (d d' : Description) (s : List ℕ) (place blocks : ℕ) (o : Scrubbed) (r : ℕ) → d ≡ d' → o ≡ scrubbed d s place blocks → r ≡ number_of o.answer
     → HandedBack (scrubbed d' s place blocks) r o.next o.judged o.faults o.first

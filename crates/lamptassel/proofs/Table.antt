@@ -4,12 +4,11 @@ use mathlib.Core.Path.{◌≡◌, ap, ◌∙◌}
 use mathlib.Core.Bool.{true}
 use mathlib.Core.List.{List}
 use Prim.Native.Nat.{ℕ}
-use Rattle.answer.specs.Answer.{number_of, in_table}
+use Rattle.answer.specs.Answer.{Answer, answer_of, number_of, in_table}
 use Rattle.answer.specs.Outcome.{Outcome}
-use Rattle.answer.specs.declared.Answer.{Answer}
 use Rattle.answer.proofs.Demands.{in_table_lem}
 use Rattle.execute.specs.Lent.{Lent}
-use Rattle.format.specs.declared.Choice.{Choice}
+use Rattle.format.specs.Choice.{Choice, kind_of}
 use Rattle.scrub.specs.declared.Scrubbed.{Scrubbed}
 use Rattle.lamptassel.specs.Answers.{Executed, Chosen, Answered, HandedBack}
 
@@ -22,7 +21,7 @@ execute_in_table o r a p l x = told o.answer r x.answer
 
 -- `lamptassel_format_choice`
 pub format_choice_in_table : (c : Choice) (r t : ℕ) → Chosen c r t → in_table r ≡ true
-format_choice_in_table c r t x = told c.answer r x.answer
+format_choice_in_table c r t x = told (answer_of c) r x.answer
 
 -- `lamptassel_fill`, `lamptassel_parity`, `lamptassel_rebuild`, `lamptassel_correct`, `lamptassel_guards`
 pub answered_in_table : (o : Outcome (List ℕ)) (r : ℕ) (l : List ℕ) → Answered o r l → in_table r ≡ true

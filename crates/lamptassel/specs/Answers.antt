@@ -1,9 +1,9 @@
 -- "The cabinet's server is written in C; it passes numbers and byte buffers.": what each call answers and leaves behind.
 use Rattle.std.specs.Prelude.{ℕ, List, ◌≡◌}
-use Rattle.answer.specs.Answer.{number_of, address_of, place_of}
+use Rattle.answer.specs.Answer.{answer_of, number_of, address_of, place_of}
 use Rattle.answer.specs.Outcome.{Outcome}
 use Rattle.execute.specs.Lent.{Lent}
-use Rattle.format.specs.declared.Choice.{Choice}
+use Rattle.format.specs.Choice.{Choice, kind_of}
 use Rattle.scrub.specs.declared.Scrubbed.{Scrubbed}
 
 -- a command's answer r, the numbers a and p in the places lent for them, and what is left of segment and buffer:
@@ -17,8 +17,8 @@ pub record Executed (o : Outcome Lent) (r a p : ℕ) (after : Lent) : Type 0 whe
 
 -- a format choice's answer r, and the type t in the place lent for it: "Answer 0 comes with the type; a refusal comes with type 0."
 pub record Chosen (c : Choice) (r t : ℕ) : Type 0 where
-  pub answer : r ≡ number_of c.answer
-  pub kind : t ≡ c.kind
+  pub answer : r ≡ number_of (answer_of c)
+  pub kind : t ≡ kind_of c
 
 -- the answer r to a call that is lent one list to write, and what it then holds
 pub record Answered (o : Outcome (List ℕ)) (r : ℕ) (l : List ℕ) : Type 0 where

@@ -1,3 +1,4 @@
+// Kept: a description is six numbers in each of them: it is what C passes.
 // What a C server links. Each function takes numbers and byte slices, and answers every input.
 #![tactic(auto)]
 
@@ -52,9 +53,11 @@ pub extern "C" fn lamptassel_format_choice(
     ensures { Chosen (choice_of spt protect fmtpinfo usage) result kind.new }
 {
     let c = format::choice_of(spt, protect, fmtpinfo, usage);
-    let a = c.answer;
-    *kind = c.kind;
-    answer::number(a)
+    *kind = format::kind(c);
+    match c {
+        Ok(_) => answer::number(Ok(())),
+        Err(e) => answer::number(Err(e)),
+    }
 }
 
 // Fills a fresh segment.
@@ -96,12 +99,11 @@ pub extern "C" fn lamptassel_scrub(
 {
     let d = segment::described(kind, block, exponent, first, count, ato);
     let s = scrub::scrub(d, segment, place, blocks);
-    let a = s.answer;
     *next = s.next;
     *judged = s.judged;
     *faults = s.faults;
     *first_fault = s.first;
-    answer::number(a)
+    answer::number(s.answer)
 }
 
 // Makes the parity of `k` members in `out`.

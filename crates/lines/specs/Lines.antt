@@ -1,7 +1,8 @@
 -- A line of the listing: its state and its text.
 use Rattle.std.specs.Prelude.{ℕ, Bool, cond, List, [], ◌∷◌, ◌++◌}
-use Rattle.answer.specs.declared.Answer.{Answer}
-use Rattle.answer.specs.declared.Answer.TheVariants as answers
+use Rattle.std.specs.Prelude as std
+use Rattle.answer.specs.Answer.{Answer}
+use Rattle.answer.specs.declared.Refusal.TheVariants.{Wrong, BlockDiffers, Refused}
 use Rattle.answer.specs.declared.Field.{Field}
 use Rattle.answer.specs.declared.Field.TheVariants as fields
 use Rattle.interval.specs.declared.Rules.{Rules}
@@ -21,10 +22,10 @@ field_word fields.Reference = Ref
 
 -- what judging says of an interval, as a word of the listing
 abbrev pub worded : Answer → State
-worded answers.Good = Ok
-worded (answers.Wrong f a p) = field_word f
-worded (answers.BlockDiffers a) = Ok
-worded (answers.Refused r) = Ok
+worded (std.Ok u) = Ok
+worded (std.Err (Wrong f a p)) = field_word f
+worded (std.Err (BlockDiffers a)) = Ok
+worded (std.Err (Refused r)) = Ok
 
 -- "State is `skipped` under the escape, else `guard`, else `ref` .., else `ok`."
 unfoldable pub state_of : Rules → Bool → Place → List ℕ → State

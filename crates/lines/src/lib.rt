@@ -2,12 +2,13 @@
 #![tactic(auto)]
 
 ghost use Rattle.std.specs.Prelude.{◌≡◌, ◌+◌, ◌≤◌, ◌^◌, length};
-ghost use Rattle.guard.specs.Table.{Right};
-ghost use Rattle.writing.specs.Laid.{Written};
+ghost use Rattle.writing.specs.Printed.{Printed};
 ghost use Rattle.lines.specs.Lines.{field_word, worded, state_of, line_of, state_text, line_text};
 
-use answer::{Answer, Field};
+use answer::{Answer, Field, Refusal};
+use guard::Table;
 use interval::{Place, Rules};
+use writing::Pen;
 
 // The state of an interval's line.
 #[derive(Clone, Copy)]
@@ -16,6 +17,41 @@ pub enum State {
     Guard,
     Ref,
     Ok,
+}
+
+impl State {
+    // The word for a wrong field. The listing expects no application tag.
+    fn of_field(f: Field) -> State
+        ensures { result ≡ field_word f }
+    {
+        match f {
+            Field::Guard => State::Guard,
+            Field::Application => State::Ok,
+            Field::Reference => State::Ref,
+        }
+    }
+
+    // What judging says of an interval, as a word of the listing.
+    fn of(a: Answer) -> State
+        ensures { result ≡ worded a }
+    {
+        match a {
+            Err(Refusal::Wrong(f, _, _)) => State::of_field(f),
+            _ => State::Ok,
+        }
+    }
+
+    // The word as it is printed.
+    fn text(self) -> &'static [u8]
+        ensures { result.now ≡ state_text self }
+    {
+        match self {
+            State::Skipped => b"skipped",
+            State::Guard => b"guard",
+            State::Ref => b"ref",
+            State::Ok => b"ok",
+        }
+    }
 }
 
 // A line of the listing, before it is printed.
@@ -29,50 +65,25 @@ pub struct Line {
     pub state: State,
 }
 
-// The word for a wrong field. The listing expects no application tag.
-fn field_word(f: Field) -> State
-    ensures { result ≡ field_word f }
-{
-    match f {
-        Field::Guard => State::Guard,
-        Field::Application => State::Ok,
-        Field::Reference => State::Ref,
-    }
-}
-
-// What judging says of an interval, as a word of the listing.
-fn worded(a: Answer) -> State
-    ensures { result ≡ worded a }
-{
-    match a {
-        Answer::Good => State::Ok,
-        Answer::Wrong(f, _, _) => field_word(f),
-        Answer::BlockDiffers(_) => State::Ok,
-        Answer::Refused(_) => State::Ok,
-    }
-}
-
+// Kept: that `s` is an interval is asked of a slice, here, below and in `sheet`, for the reason that stands in `judge`.
 // The state of the interval that `s` is: its data and its field.
-fn state_of(t: &[u16; 256], r: Rules, skipped: bool, p: Place, s: &[u8]) -> State
-    requires right { Right t.now }
-    requires size_value { r.size + 8 ≡ length s.now }
+fn state_of(t: &Table, r: Rules, skipped: bool, p: Place, s: &[u8]) -> State
+    requires { r.size + 8 ≡ length s.now }
     ensures { result ≡ state_of r skipped p s.now }
 {
     if skipped {
         return State::Skipped;
     }
     let size = r.size;
-    worded(interval::judge_pieces(t, r, p, &s[..size], &s[size..]))
+    State::of(interval::judge_pieces(t, r, p, &s[..size], field::field_of(s, size)))
 }
 
 // The line of the interval that `s` is, the one numbered `i` of its block.
-pub fn line_of(t: &[u16; 256], r: Rules, skipped: bool, i: u64, p: Place, s: &[u8]) -> Line
-    requires right { Right t.now }
-    requires size_value { r.size + 8 ≡ length s.now }
+pub fn line_of(t: &Table, r: Rules, skipped: bool, i: u64, p: Place, s: &[u8]) -> Line
+    requires { r.size + 8 ≡ length s.now }
     ensures { result ≡ line_of r skipped i p s.now }
 {
-    let size = r.size;
-    let field = &s[size..];
+    let field = field::field_of(s, r.size);
     Line {
         address: p.address,
         interval: i,
@@ -83,28 +94,18 @@ pub fn line_of(t: &[u16; 256], r: Rules, skipped: bool, i: u64, p: Place, s: &[u
     }
 }
 
-fn print_state(out: &mut [u8], at: usize, s: State) -> usize
-    requires { at + 7 ≤ 2 ^ 32 }
-    ensures { Written (state_text s) at out.old result out.new }
-{
-    match s {
-        State::Skipped => writing::put_word(out, at, b"skipped"),
-        State::Guard => writing::put_word(out, at, b"guard"),
-        State::Ref => writing::put_word(out, at, b"ref"),
-        State::Ok => writing::put_word(out, at, b"ok"),
+impl Line {
+    // Prints it, with a line feed behind.
+    pub fn print(self, pen: &mut Pen)
+        requires { pen.old.at + 69 ≤ 2 ^ 32 }
+        ensures { Printed (line_text self) pen.old pen.new }
+    {
+        text::decimal_then(pen, self.address, 0x20);
+        text::decimal_then(pen, self.interval, 0x20);
+        text::hexadecimal_then(pen, 4, self.guard as u64, 0x20);
+        text::hexadecimal_then(pen, 4, self.application as u64, 0x20);
+        text::hexadecimal_then(pen, 8, self.reference as u64, 0x20);
+        pen.word(self.state.text());
+        pen.put(0x0A);
     }
-}
-
-pub fn print_line(out: &mut [u8], at: usize, l: Line) -> usize
-    requires { at + 69 ≤ 2 ^ 32 }
-    ensures { Written (line_text l) at out.old result out.new }
-{
-    let state = l.state;
-    let a = text::decimal_then(out, at, l.address, 0x20);
-    let i = text::decimal_then(out, a, l.interval, 0x20);
-    let g = text::hexadecimal_then(out, i, 4, l.guard as u64, 0x20);
-    let m = text::hexadecimal_then(out, g, 4, l.application as u64, 0x20);
-    let f = text::hexadecimal_then(out, m, 8, l.reference as u64, 0x20);
-    let e = print_state(out, f, state);
-    writing::put(out, e, 0x0A)
 }

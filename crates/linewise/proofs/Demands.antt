@@ -7,10 +7,10 @@ use mathlib.Core.List.{List, ◌++◌}
 use Prim.Native.Nat.{ℕ, zero, suc, ◌+◌, ◌*◌}
 use native.Mathlib.Omega.{arith}
 use lib.ListN.{length, drop}
-use Rattle.answer.specs.declared.Answer.TheVariants as answers
+use Rattle.answer.specs.Answer as answers
 use Rattle.answer.specs.declared.Field.TheVariants as fields
 use Rattle.segment.specs.declared.Description.{Description}
-use Rattle.segment.specs.Segment.{Segment, intervals_of, length_of}
+use Rattle.segment.specs.Segment.{IsSegment, intervals_of, length_of}
 use Rattle.interval.specs.declared.Rules.{Rules}
 use Rattle.interval.specs.declared.Place.{Place}
 use Rattle.field.specs.Field.{data_of, field_of}
@@ -40,12 +40,12 @@ unfolding listed_text total_text
 totals_count d s = refl
 
 -- ---- a line for each interval, and none in type 0
-pub lines_all : (d : Description) (s : List ℕ) → Segment d → length_of d ≡ length s → (d.kind ≡ 0 → ⊥) → length (lines_of d s) ≡ d.count * intervals_of d
+pub lines_all : (d : Description) (s : List ℕ) → IsSegment d → length_of d ≡ length s → (d.kind ≡ 0 → ⊥) → length (lines_of d s) ≡ d.count * intervals_of d
 unfolding rules_of
 lines_all d s g long n =
     ap length (lines_are d s g long n) ∙ blocks_length (rules_of Stored d (read_all d)) d.count (start_of d (read_all d)) s
 
-pub lines_plain : (d : Description) (s : List ℕ) → Segment d → length_of d ≡ length s → d.kind ≡ 0 → length (lines_of d s) ≡ 0
+pub lines_plain : (d : Description) (s : List ℕ) → IsSegment d → length_of d ≡ length s → d.kind ≡ 0 → length (lines_of d s) ≡ 0
 lines_plain d s g long e = ap length (lines_none d s g long e)
 
 -- ---- no line is faulty where judging finds no fault
@@ -62,8 +62,8 @@ and_false false b e = refl
 
 module _ (r : Rules) (plain : r.application ≡ false) where
   fault : (a b : ℕ) (g x : Bool)
-      → (cond g (answers.Wrong fields.Guard a b) (cond x (answers.Wrong fields.Reference a b) answers.Good) ≡ answers.Good)
-      ↔ (faulty (worded (cond g (answers.Wrong fields.Guard a b) (cond x (answers.Wrong fields.Reference a b) answers.Good))) ≡ 0)
+      → (cond g (answers.wrong fields.Guard a b) (cond x (answers.wrong fields.Reference a b) answers.good) ≡ answers.good)
+      ↔ (faulty (worded (cond g (answers.wrong fields.Guard a b) (cond x (answers.wrong fields.Reference a b) answers.good))) ≡ 0)
   fault a b true x = (λ e. let z : ◌≡◌ {A = ℕ} 0 1 = cc in absurd (omega arith), λ e. absurd (omega arith))
   fault a b false true = (λ e. let z : ◌≡◌ {A = ℕ} 0 1 = cc in absurd (omega arith), λ e. absurd (omega arith))
   fault a b false false = (λ e. refl, λ e. refl)
@@ -72,11 +72,11 @@ module _ (r : Rules) (plain : r.application ≡ false) where
   unfolding application_wrong
   not_applied f = and_false r.application _ plain
 
-  pub fault_interval : (p : Place) (s : List ℕ) → (judge_interval r p s ≡ answers.Good) ↔ (faulty (worded (judge_interval r p s)) ≡ 0)
+  pub fault_interval : (p : Place) (s : List ℕ) → (judge_interval r p s ≡ answers.good) ↔ (faulty (worded (judge_interval r p s)) ≡ 0)
   unfolding judge_interval judge_pieces
   fault_interval p s = rw (not_applied (field_of r.size s)) (fault p.address p.interval (guard_wrong r (data_of r.size s) (field_of r.size s)) (reference_wrong r p (field_of r.size s)))
 
-  faults_judged : (k number : ℕ) (p : Place) (s : List ℕ) → (first_of (judge_interval r) next_interval (r.size + 8) k p s ≡ answers.Good) ↔ (count_of faulty (interval_lines r false k number p s) ≡ 0)
+  faults_judged : (k number : ℕ) (p : Place) (s : List ℕ) → (first_of (judge_interval r) next_interval (r.size + 8) k p s ≡ answers.good) ↔ (count_of faulty (interval_lines r false k number p s) ≡ 0)
   unfolding first_of interval_lines count_of line_of state_of
   faults_judged zero number p s = (λ e. refl, λ e. refl)
   faults_judged (suc k) number p s =
@@ -88,15 +88,15 @@ module _ (r : Rules) (plain : r.application ≡ false) where
   faults_skipped zero number p s = refl
   faults_skipped (suc k) number p s = omega (arith, faults_skipped k (number + 1) (next_interval p) (drop (r.size + 8) s))
 
-  fault_block : (p : Place) (s : List ℕ) → (judge_block r p s ≡ answers.Good) ↔ (count_of faulty (lines_in r p s) ≡ 0)
+  fault_block : (p : Place) (s : List ℕ) → (judge_block r p s ≡ answers.good) ↔ (count_of faulty (lines_in r p s) ≡ 0)
   unfolding judge_block judge_intervals lines_in
   fault_block p s =
       elim (any_escapes r.escape r.size r.intervals s)
-      as (λ b. (cond b answers.Good (first_of (judge_interval r) next_interval (r.size + 8) r.intervals p s) ≡ answers.Good)
+      as (λ b. (cond b answers.good (first_of (judge_interval r) next_interval (r.size + 8) r.intervals p s) ≡ answers.good)
       ↔ (count_of faulty (interval_lines r b r.intervals 0 p s) ≡ 0))
       [ true ↦ (λ e. faults_skipped r.intervals 0 p s, λ e. refl) | false ↦ faults_judged r.intervals 0 p s ]
 
-  faults_blocks : (k : ℕ) (p : Place) (s : List ℕ) → (judge_blocks r k p s ≡ answers.Good) ↔ (count_of faulty (block_lines r k p s) ≡ 0)
+  faults_blocks : (k : ℕ) (p : Place) (s : List ℕ) → (judge_blocks r k p s ≡ answers.good) ↔ (count_of faulty (block_lines r k p s) ≡ 0)
   unfolding judge_blocks first_of block_lines count_of
   faults_blocks zero p s = (λ e. refl, λ e. refl)
   faults_blocks (suc k) p s =
@@ -108,7 +108,7 @@ unfolding rules_of sixteen columns_of application_known
 read_plain d = refl
 
 -- the whole segment, judged with what code 001 of a 16-byte READ checks, is good exactly where no line is faulty
-pub faults_are_judged : (d : Description) (s : List ℕ) → Segment d → length_of d ≡ length s → (d.kind ≡ 0 → ⊥)
-    → (judge_blocks (rules_of Stored d (read_all d)) d.count (start_of d (read_all d)) s ≡ answers.Good) ↔ (count_of faulty (lines_of d s) ≡ 0)
+pub faults_are_judged : (d : Description) (s : List ℕ) → IsSegment d → length_of d ≡ length s → (d.kind ≡ 0 → ⊥)
+    → (judge_blocks (rules_of Stored d (read_all d)) d.count (start_of d (read_all d)) s ≡ answers.good) ↔ (count_of faulty (lines_of d s) ≡ 0)
 faults_are_judged d s g long n =
     rw (lines_are d s g long n) (faults_blocks (rules_of Stored d (read_all d)) (read_plain d) d.count (start_of d (read_all d)) s)

@@ -13,9 +13,9 @@ use lib.Dec.{eqb, lit<}
 use lib.ListN.{length, get_or, drop, get_or-append}
 use lib.Seq.{get_or-append-add}
 use Rattle.words.proofs.Parts.{drop_more}
-use Rattle.answer.specs.declared.Answer.TheVariants as answers
+use Rattle.answer.specs.Answer as answers
 use Rattle.segment.specs.declared.Description.{Description}
-use Rattle.segment.specs.Segment.{Segment, intervals_of, length_of}
+use Rattle.segment.specs.Segment.{IsSegment, intervals_of, length_of}
 use Rattle.segment.specs.Places.{interval_at}
 use Rattle.interval.specs.declared.Rules.{Rules}
 use Rattle.interval.specs.declared.Place.{Place}
@@ -84,11 +84,11 @@ unfolding sixteen
 small d = tag_small d (read_all d) (lit< tt)
 
 -- in type 1 a block has one interval, and the tag expected there is the address's low four bytes
-one_interval : (d : Description) → Segment d → d.kind ≡ 1 → intervals_of d ≡ 1
+one_interval : (d : Description) → IsSegment d → d.kind ≡ 1 → intervals_of d ≡ 1
 unfolding intervals_of
 one_interval d g k = ap (λ (e : ℕ). 2 ^ e) (g.plain (omega (arith, k)))
 
-module _ (d : Description) (s : List ℕ) (g : Segment d) (j i : ℕ) (within : i < intervals_of d) where
+module _ (d : Description) (s : List ℕ) (g : IsSegment d) (j i : ℕ) (within : i < intervals_of d) where
   tag_is : d.kind ≡ 1 → (place_at d (read_all d) j i).tag ≡ (d.first + j) % 2 ^ 32
   unfolding sixteen first_tag
   tag_is k =
@@ -130,15 +130,15 @@ module _ (d : Description) (s : List ℕ) (g : Segment d) (j i : ℕ) (within : 
   state_judged = sym state_is ∙ by (skipped Stored d (read_all d) s j)
     where
       by : (b : Bool) → cond b Skipped (worded (judge_interval (rules_of Stored d (read_all d)) (place_at d (read_all d) j i) (interval_at d s j i)))
-          ≡ cond b Skipped (worded (cond b answers.Good (judge_interval (rules_of Stored d (read_all d)) (place_at d (read_all d) j i) (interval_at d s j i))))
+          ≡ cond b Skipped (worded (cond b answers.good (judge_interval (rules_of Stored d (read_all d)) (place_at d (read_all d) j i) (interval_at d s j i))))
       by true = refl
       by false = refl
 
   -- a line is in state `guard` or `ref` exactly where judging that interval finds a fault
-  pub faulty_exactly : (verdict_at Stored d (read_all d) s j i ≡ answers.Good) ↔ (faulty (line_at d s j i).state ≡ 0)
+  pub faulty_exactly : (verdict_at Stored d (read_all d) s j i ≡ answers.good) ↔ (faulty (line_at d s j i).state ≡ 0)
   faulty_exactly = rw state_judged (by (skipped Stored d (read_all d) s j))
     where
-      by : (b : Bool) → (cond b answers.Good (judge_interval (rules_of Stored d (read_all d)) (place_at d (read_all d) j i) (interval_at d s j i)) ≡ answers.Good)
-          ↔ (faulty (cond b Skipped (worded (cond b answers.Good (judge_interval (rules_of Stored d (read_all d)) (place_at d (read_all d) j i) (interval_at d s j i))))) ≡ 0)
+      by : (b : Bool) → (cond b answers.good (judge_interval (rules_of Stored d (read_all d)) (place_at d (read_all d) j i) (interval_at d s j i)) ≡ answers.good)
+          ↔ (faulty (cond b Skipped (worded (cond b answers.good (judge_interval (rules_of Stored d (read_all d)) (place_at d (read_all d) j i) (interval_at d s j i))))) ≡ 0)
       by true = (λ e. refl, λ e. refl)
       by false = fault_interval (rules_of Stored d (read_all d)) (read_plain d) (place_at d (read_all d) j i) (interval_at d s j i)

@@ -9,10 +9,10 @@ use native.Mathlib.Omega.{arith}
 use borrow.Author.Tests.{eq-eqb}
 use lib.Dec.{eqb, lit<}
 use Rattle.guard.specs.Guard.{guard}
-use Rattle.answer.specs.declared.Answer.TheVariants as answers
+use Rattle.answer.specs.Answer as answers
 use Rattle.answer.specs.declared.Field.TheVariants as fields
 use Rattle.segment.specs.declared.Description.{Description}
-use Rattle.segment.specs.Segment.{Segment, intervals_of, size_of}
+use Rattle.segment.specs.Segment.{IsSegment, intervals_of, size_of}
 use Rattle.interval.specs.declared.Place.{Place}
 use Rattle.field.specs.Field.{data_of, field_of, stored_guard, stored_reference}
 use Rattle.interval.specs.Interval.{guard_wrong, application_wrong, reference_wrong, judge_pieces, judge_interval}
@@ -31,7 +31,7 @@ abbrev in_words : Bool → Bool → Bool → State
 in_words skipped g r = cond skipped Skipped (cond g Guard (cond r Ref Ok))
 
 worded_is : (a p : ℕ) (g r : Bool)
-    → worded (cond g (answers.Wrong fields.Guard a p) (cond false (answers.Wrong fields.Application a p) (cond r (answers.Wrong fields.Reference a p) answers.Good))) ≡ cond g Guard (cond r Ref Ok)
+    → worded (cond g (answers.wrong fields.Guard a p) (cond false (answers.wrong fields.Application a p) (cond r (answers.wrong fields.Reference a p) answers.good))) ≡ cond g Guard (cond r Ref Ok)
 worded_is a p true r = refl
 worded_is a p false true = refl
 worded_is a p false false = refl
@@ -53,7 +53,7 @@ state_in_words d skipped p s =
     (rw known (worded_is p.address p.interval (not (eqb (stored_guard f) (guard (data_of (size_of d) s)))) (eqb d.kind 1 && not (eqb (stored_reference f) p.tag))))
 
 -- "the address's low four bytes expected": the tag at block j, and the address that its line has
-pub address_expected : (d : Description) (j : ℕ) → Segment d → d.kind ≡ 1
+pub address_expected : (d : Description) (j : ℕ) → IsSegment d → d.kind ≡ 1
     → after (next_block (intervals_of d)) j (start_of d (read_all d)) ≡ record { address = d.first + j; interval = j; tag = (d.first + j) % 2 ^ 32 }
 unfolding start_of sixteen first_tag intervals_of
 address_expected d j g k =

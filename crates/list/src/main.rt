@@ -7,17 +7,16 @@ use std::io;
 use std::io::{Read, Write};
 
 // Room for one byte more than the largest record: a longer input is refused in the same way as one of that length.
-fn record() -> [u8; 65537]
-    ensures { 65537 ≡ length result }
-{
-    [0; 65537]
-}
+const RECORD: usize = 65537;
 
 // Room for the longest listing.
-fn sheet() -> [u8; 524288]
-    ensures { 524288 ≡ length result }
+const SHEET: usize = 524288;
+
+// Kept: an array, where a Vec would rest on three axioms more and could find no memory.
+fn zeros<const N: usize>() -> [u8; N]
+    ensures { N ≡ length result }
 {
-    [0; 524288]
+    [0; N]
 }
 
 // Reads until `buffer` is full or the input ends, and returns how many bytes it put there.
@@ -25,21 +24,20 @@ fn read_full(rt: &HostRuntime, buffer: &mut [u8]) -> io::Result<usize>
     ensures { IfOk result (λ n. n ≤ length buffer.new) }
 {
     let mut reader = rt.stdin();
-    let mut done: usize = 0;
+    let mut done = 0;
     while done < buffer.len() {
-        let n = reader.read(&mut buffer[done..])?;
-        if n == 0 {
-            break;
+        match reader.read(&mut buffer[done..])? {
+            0 => break,
+            n => done += n,
         }
-        done += n;
     }
     Ok(done)
 }
 
 fn main(rt: HostRuntime) -> io::Result<()> {
-    let mut input = record();
+    let mut input = zeros::<RECORD>();
     let got = read_full(&rt, &mut input)?;
-    let mut out = sheet();
+    let mut out = zeros::<SHEET>();
     let n = listing::list(&input[..got], &mut out);
     io::writer(&rt).write_all(&out[..n])
 }

@@ -7,9 +7,8 @@ ghost use Rattle.listing.specs.Listing.{Listed};
 pub fn list(input: &[u8], out: &mut [u8]) -> usize
     ensures { Listed input.now out.old result out.new }
 {
-    let a = records::record_answer(input);
-    if !answer::is_good(a) {
-        return closing::print_refused(out, a);
+    match records::segment_of(input) {
+        Ok(segment) => page::print_listed(segment, &input[19..], out),
+        Err(e) => closing::print_refused(out, Err(e)),
     }
-    page::print_listed(records::described_by(input), &input[19..], out)
 }

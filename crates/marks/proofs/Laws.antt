@@ -8,9 +8,10 @@ use native.Mathlib.Omega.{arith}
 use borrow.Author.Tests.{eq-eqb, ne_eqb}
 use lib.Dec.{eqb}
 use Rattle.segment.specs.declared.Description.{Description}
-use Rattle.segment.specs.Segment.{Segment, intervals_of}
+use Rattle.segment.specs.Segment.{IsSegment, intervals_of}
 use Rattle.segment.proofs.Laws.{sizes}
 use Rattle.command.specs.declared.Command.{Command}
+use Rattle.command.specs.Tags.{long, tag_of, application_of}
 use Rattle.insertion.specs.declared.Marks.{Marks}
 use Rattle.marks.specs.Inserted.{inserted_application, inserted_reference, marks_of}
 
@@ -26,11 +27,11 @@ module _ (d : Description) (c : Command) where
   unfolding inserted_application
   application_off a = rw a
 
-  pub application_tag : (d.ato ≡ 0 → ⊥) → c.long ≡ true → inserted_application d c ≡ c.application
+  pub application_tag : (d.ato ≡ 0 → ⊥) → long c ≡ true → inserted_application d c ≡ application_of c
   unfolding inserted_application
   application_tag a l = rw (ne_eqb d.ato 0 a, l)
 
-  pub application_none : (d.ato ≡ 0 → ⊥) → c.long ≡ false → inserted_application d c ≡ 0xFFFF
+  pub application_none : (d.ato ≡ 0 → ⊥) → long c ≡ false → inserted_application d c ≡ 0xFFFF
   unfolding inserted_application
   application_none a l = rw (ne_eqb d.ato 0 a, l)
 
@@ -38,11 +39,11 @@ module _ (d : Description) (c : Command) where
   unfolding inserted_reference
   inserted_one k = rw (eq-eqb d.kind 1 k)
 
-  pub inserted_tag : d.kind ≡ 2 → c.long ≡ true → inserted_reference d c ≡ c.tag
+  pub inserted_tag : d.kind ≡ 2 → long c ≡ true → inserted_reference d c ≡ tag_of c
   unfolding inserted_reference
   inserted_tag k l = rw (k, l)
 
-  pub inserted_address : (n : ℕ) → d.kind ≡ 2 → c.long ≡ false → n ≡ intervals_of d → inserted_reference d c ≡ c.address % 2 ^ 32 * n % 2 ^ 32
+  pub inserted_address : (n : ℕ) → d.kind ≡ 2 → long c ≡ false → n ≡ intervals_of d → inserted_reference d c ≡ c.address % 2 ^ 32 * n % 2 ^ 32
   unfolding inserted_reference
   inserted_address n k l e =
       let one : d.kind ≡ 1 → ⊥ = λ o. omega arith in
@@ -58,5 +59,5 @@ module _ (d : Description) (c : Command) where
   marks_are a r s p q e = rw (p, q, e)
 
   -- ---- a reduced address times the intervals of a block is small
-  pub product_small : (a n : ℕ) → Segment d → n ≡ intervals_of d → a % 2 ^ 32 * n ≤ 2 ^ 32 * 8
+  pub product_small : (a n : ℕ) → IsSegment d → n ≡ intervals_of d → a % 2 ^ 32 * n ≤ 2 ^ 32 * 8
   product_small a n s e = mul-le-mul {n₂ = 2 ^ 32} {m₂ = 8} (omega arith) (rw e (sizes d s).intervals_most)

@@ -2,12 +2,11 @@
 #![tactic(auto)]
 
 ghost use Rattle.std.specs.Prelude.{◌≡◌};
-ghost use Rattle.segment.specs.Segment.{Segment};
 ghost use Rattle.marks.specs.Inserted.{inserted_application, inserted_reference, marks_of};
 
 use command::Command;
 use insertion::Marks;
-use segment::Description;
+use segment::{Description, Segment};
 
 fn inserted_application(d: Description, c: Command) -> u16
     ensures { result ≡ inserted_application d c }
@@ -15,36 +14,35 @@ fn inserted_application(d: Description, c: Command) -> u16
     if d.ato == 0 {
         return 0;
     }
-    if c.long {
-        return c.application;
+    match c.tags {
+        Some(t) => t.application,
+        None => 0xFFFF,
     }
-    0xFFFF
 }
 
-fn inserted_reference(d: Description, c: Command) -> u32
-    requires { Segment d }
-    ensures { result ≡ inserted_reference d c }
+fn inserted_reference(d: Segment, c: Command) -> u32
+    ensures { result ≡ inserted_reference d.numbers c }
 {
-    if d.kind == 1 {
+    let kind = d.numbers.kind;
+    if kind == 1 {
         return (c.address % 0x1_0000_0000) as u32;
     }
-    if d.kind == 2 {
-        if c.long {
-            return c.tag;
+    if kind == 2 {
+        if let Some(t) = c.tags {
+            return t.reference;
         }
-        return (c.address % 0x1_0000_0000 * segment::intervals(d) as u64 % 0x1_0000_0000) as u32;
+        return (c.address % 0x1_0000_0000 * d.intervals() as u64 % 0x1_0000_0000) as u32;
     }
     0
 }
 
 // What a WRITE with code 000, which brings no fields, puts into them.
-pub fn marks(d: Description, c: Command) -> Marks
-    requires { Segment d }
-    ensures { result ≡ marks_of d c }
+pub fn marks(d: Segment, c: Command) -> Marks
+    ensures { result ≡ marks_of d.numbers c }
 {
     Marks {
-        application: inserted_application(d, c),
+        application: inserted_application(d.numbers, c),
         reference: inserted_reference(d, c),
-        step: if d.kind == 3 { 0 } else { 1 },
+        step: if d.numbers.kind == 3 { 0 } else { 1 },
     }
 }

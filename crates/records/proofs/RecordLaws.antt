@@ -1,22 +1,18 @@
 -- The laws of a record: its frame as a test and as facts, and which refusal comes first.
 -- Assumes nothing.
-use mathlib.Core.Path.{◌≡◌, refl, sym, ◌∙◌}
+use mathlib.Core.Path.{◌≡◌, sym, ap, ◌∙◌}
 use mathlib.Core.Bool.{Bool, true, false, not}
 use mathlib.Core.List.{List}
-use Prim.Native.Nat.{ℕ, ◌+◌, ◌-◌, ◌≤◌}
-use borrow.Author.Tests.{le-ltb, eq-eqb, ltb-false, eqb-true, not-false}
+use Prim.Native.Nat.{ℕ, ◌+◌, ◌-◌}
+use borrow.Author.Tests.{ltb-false, eqb-true, not-false}
 use lib.Dec.{eqb, ltb}
 use lib.ListN.{length, get_or, length-drop}
 use Rattle.words.specs.BigEndian.{number_at}
 use Rattle.words.proofs.Choice.{or_none}
-use Rattle.answer.specs.Answer.{is_good, refused_if}
-use Rattle.answer.specs.declared.Answer.{Answer}
-use Rattle.answer.specs.declared.Answer.TheVariants as answers
+use Rattle.answer.specs.Answer.{Answer, good, is_good, refused_if}
 use Rattle.answer.specs.declared.Reason.TheVariants as reasons
 use Rattle.answer.proofs.Ladder.{both_good, not_refused}
-use Rattle.segment.specs.declared.Description.{Description}
-use Rattle.segment.specs.Segment.{described, Segment, length_of}
-use Rattle.segment.specs.Rules.{segment_rules}
+use Rattle.segment.specs.Segment.{described, IsSegment, length_of}
 use Rattle.segment.proofs.Rules.{rules_segment}
 use Rattle.records.specs.Record.{frame_bad, Framed, described_by, segment_in, record_answer}
 
@@ -36,47 +32,18 @@ frame_facts input e =
       version = eqb-true _ _ (not-false _ whole.1);
     }
 
--- where all else is in order, the version alone is left to ask
-pub frame_version : (input : List ℕ) → 4 ≤ length input → number_at 0 4 input ≤ 65532 → 15 ≤ number_at 0 4 input → length input ≡ 4 + number_at 0 4 input
-    → not (eqb (get_or input 4 0) 1) ≡ frame_bad input
-unfolding frame_bad
-frame_version input start most least whole =
-    rw (
-      le-ltb (length input) 4 start,
-      le-ltb 65532 (number_at 0 4 input) most,
-      le-ltb (number_at 0 4 input) 15 least,
-      eq-eqb (length input) (4 + number_at 0 4 input) whole,
-    )
-    refl
-
-pub frame_bad_lem : (input : List ℕ) → (Framed input → ⊥) → true ≡ frame_bad input
-frame_bad_lem input n = by (frame_bad input) refl
-  where
-    by : (b : Bool) → frame_bad input ≡ b → true ≡ b
-    by true e = refl
-    by false e = absurd (n (frame_facts input e))
+-- the rule that asks for the frame did not refuse
+pub framed : (input : List ℕ) {b : Bool} {a : Answer} → b ≡ frame_bad input → a ≡ refused_if b reasons.ListingRecordBad → a ≡ good → Framed input
+framed input {b} e r g = frame_facts input (sym e ∙ not_refused b reasons.ListingRecordBad (ap is_good (sym r ∙ g)))
 
 pub segment_length : (input : List ℕ) → length (segment_in input) ≡ length input - 19
 unfolding segment_in
 segment_length input = length-drop 19 input
 
--- ---- the refusals, in order
-module _ (input : List ℕ) {b : Bool} (e : b ≡ frame_bad input) where
-  pub record_frame : b ≡ true → answers.Refused reasons.ListingRecordBad ≡ record_answer input
-  unfolding record_answer
-  record_frame w = rw (sym e ∙ w)
-
-  pub record_framed : b ≡ false → Framed input
-  record_framed w = frame_facts input (sym e ∙ w)
-
-  pub record_segment : {d : Description} {long : ℕ} {a : Answer} → b ≡ false → d ≡ described_by input → long ≡ length input - 19 → a ≡ segment_rules d long → a ≡ record_answer input
-  unfolding record_answer
-  record_segment w m l f = rw (sym e ∙ w, segment_length input, ← l, ← m) f
-
 -- ---- what a record that is not refused is
 pub record Whole (input : List ℕ) : Type 0 where
   pub frame : Framed input
-  pub segment : Segment (described_by input)
+  pub segment : IsSegment (described_by input)
   pub length : length (segment_in input) ≡ length_of (described_by input)
 
 pub record_whole : (input : List ℕ) → is_good (record_answer input) ≡ true → Whole input

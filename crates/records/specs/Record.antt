@@ -2,8 +2,7 @@
 -- segment."
 use Rattle.std.specs.Prelude.{ℕ, ◌+◌, ◌≤◌, Bool, not, ◌||◌, List, ◌≡◌, eqb, ltb, length, get_or, drop}
 use Rattle.words.specs.BigEndian.{number_at}
-use Rattle.answer.specs.Answer.{or_else, refused_if}
-use Rattle.answer.specs.declared.Answer.{Answer}
+use Rattle.answer.specs.Answer.{Answer, or_else, refused_if}
 use Rattle.answer.specs.declared.Reason.TheVariants as reasons
 use Rattle.segment.specs.declared.Description.{Description}
 use Rattle.segment.specs.Segment.{described}

@@ -1,22 +1,22 @@
 -- "Order for a command": the rules on a command's fields and its buffer's length, and which of them answers.
-use Rattle.std.specs.Prelude.{ℕ, ◌*◌, Bool, true, false, not, ◌&&◌, cond, eqb, ltb}
-use Rattle.answer.specs.Answer.{or_else, refused_if}
-use Rattle.answer.specs.declared.Answer.{Answer}
+use Rattle.std.specs.Prelude.{ℕ, ◌*◌, not, ◌&&◌, cond, eqb, ltb}
+use Rattle.answer.specs.Answer.{Answer, or_else, refused_if}
 use Rattle.answer.specs.declared.Reason.TheVariants as reasons
 use Rattle.segment.specs.declared.Description.{Description}
 use Rattle.segment.specs.Segment.{stored_of}
 use Rattle.segment.specs.Places.{range_rule}
 use Rattle.command.specs.declared.Command.{Command}
+use Rattle.command.specs.Tags.{long}
 use Rattle.command.specs.Compares.{is_verify, compares}
 use Rattle.refusal.specs.declared.Lengths.{Lengths}
 
 -- "types 0, 1 and 3 answer 5 to every 32-byte command."
 unfoldable pub long_rule : Description → Command → Answer
-long_rule d c = refused_if (c.long && not (eqb d.kind 2)) reasons.OperationInvalid
+long_rule d c = refused_if (long c && not (eqb d.kind 2)) reasons.OperationInvalid
 
 -- "Type 2 answers 5 to other commands with a non-zero code."
 unfoldable pub other_rule : Description → Command → Answer
-other_rule d c = refused_if (not c.long && (eqb d.kind 2 && not (eqb c.code 0))) reasons.OperationInvalid
+other_rule d c = refused_if (not (long c) && (eqb d.kind 2 && not (eqb c.code 0))) reasons.OperationInvalid
 
 -- "Type 0 then answers 6 to a non-zero code."
 unfoldable pub plain_rule : Description → Command → Answer

@@ -2,12 +2,11 @@
 #![tactic(auto)]
 
 ghost use Rattle.std.specs.Prelude.{◌≡◌, ◌≤◌};
-ghost use Rattle.segment.specs.Segment.{Segment};
 ghost use Rattle.refusal.specs.Refusal.{type_rules, code_rule, check_rule, moved_of, size_rule, buffer_of, buffer_rule, refusal};
 
-use answer::{Answer, Reason};
+use answer::{Answer, Reason, Refusal};
 use command::{Command, Operation};
-use segment::Description;
+use segment::{Description, Segment};
 
 // The lengths of what is lent to a command.
 #[derive(Clone, Copy)]
@@ -19,14 +18,14 @@ pub struct Lengths {
 fn type_rules(d: Description, c: Command) -> Answer
     ensures { result ≡ type_rules d c }
 {
-    if c.long {
+    if c.tags.is_some() {
         return answer::refused_if(d.kind != 2, Reason::OperationInvalid);
     }
     if c.code == 0 {
-        return Answer::Good;
+        return Ok(());
     }
     if d.kind == 2 {
-        return Answer::Refused(Reason::OperationInvalid);
+        return Err(Refusal::Refused(Reason::OperationInvalid));
     }
     answer::refused_if(d.kind == 0, Reason::FieldInvalid)
 }
@@ -43,76 +42,67 @@ fn check_rule(c: Command) -> Answer
     answer::refused_if(0b01 < c.check, Reason::FieldInvalid)
 }
 
-// The bytes that the transfer moves.
-fn moved(d: Description, c: Command) -> u64
-    requires segment { Segment d }
-    requires length_bound { c.length ≤ 65536 }
-    ensures { result ≡ moved_of d c }
-{
-    if c.code == 0 {
-        return c.length * d.block;
+// A command, and the segment that all of its blocks are of.
+#[derive(Clone, Copy)]
+struct Within {
+    segment: Segment,
+    command: Command,
+    ghost few: { command.length ≤ 65536 },
+}
+
+impl Within {
+    // The bytes that the transfer moves.
+    fn moved(self) -> u64
+        ensures { result ≡ moved_of self.segment.numbers self.command }
+    {
+        let c = self.command;
+        if c.code == 0 {
+            return c.length * self.segment.numbers.block;
+        }
+        c.length * self.segment.stored() as u64
     }
-    c.length * segment::stored(d) as u64
-}
 
-fn size_rule(d: Description, c: Command) -> Answer
-    requires segment { Segment d }
-    requires length_bound { c.length ≤ 65536 }
-    ensures { result ≡ size_rule d c }
-{
-    answer::refused_if(4294967295 < moved(d, c), Reason::TransferTooLarge)
-}
-
-// The bytes that the buffer must have.
-fn buffer(d: Description, c: Command) -> usize
-    requires segment { Segment d }
-    requires length_bound { c.length ≤ 65536 }
-    ensures { result ≡ buffer_of d c }
-{
-    let o = c.operation;
-    match o {
-        Operation::Read => moved(d, c) as usize,
-        Operation::Write => moved(d, c) as usize,
-        Operation::Verify => if command::compares(c) {
-            moved(d, c) as usize
-        } else {
-            0
-        },
+    fn size_rule(self) -> Answer
+        ensures { result ≡ size_rule self.segment.numbers self.command }
+    {
+        answer::refused_if(4294967295 < self.moved(), Reason::TransferTooLarge)
     }
-}
 
-fn buffer_rule(d: Description, c: Command, lengths: Lengths) -> Answer
-    requires segment { Segment d }
-    requires length_bound { c.length ≤ 65536 }
-    ensures { result ≡ buffer_rule d c lengths }
-{
-    answer::refused_if(lengths.buffer != buffer(d, c), Reason::BufferLengthWrong)
+    // The bytes that the buffer must have.
+    fn buffer(self) -> usize
+        ensures { result ≡ buffer_of self.segment.numbers self.command }
+    {
+        let c = self.command;
+        match c.operation {
+            Operation::Read => self.moved() as usize,
+            Operation::Write => self.moved() as usize,
+            Operation::Verify => if command::compares(c) {
+                self.moved() as usize
+            } else {
+                0
+            },
+        }
+    }
+
+    fn buffer_rule(self, lengths: Lengths) -> Answer
+        ensures { result ≡ buffer_rule self.segment.numbers self.command lengths }
+    {
+        answer::refused_if(lengths.buffer != self.buffer(), Reason::BufferLengthWrong)
+    }
 }
 
 // The first refusal of a command's fields, or good.
-pub fn refusal(d: Description, c: Command, lengths: Lengths) -> Answer
-    requires { Segment d }
-    ensures { result ≡ refusal d c lengths }
+pub fn refusal(s: Segment, c: Command, lengths: Lengths) -> Answer
+    ensures { result ≡ refusal s.numbers c lengths }
 {
-    let kind = type_rules(d, c);
-    if !answer::is_good(kind) {
-        return kind;
-    }
-    let code = code_rule(c);
-    if !answer::is_good(code) {
-        return code;
-    }
-    let check = check_rule(c);
-    if !answer::is_good(check) {
-        return check;
-    }
-    let range = segment::range_rule(d, c.address, c.length);
-    if !answer::is_good(range) {
-        return range;
-    }
-    let size = size_rule(d, c);
-    if !answer::is_good(size) {
-        return size;
-    }
-    buffer_rule(d, c, lengths)
+    type_rules(s.numbers, c)?;
+    code_rule(c)?;
+    check_rule(c)?;
+    s.range_rule(c.address, c.length)?;
+    let within = Within {
+        segment: s,
+        command: c,
+    };
+    within.size_rule()?;
+    within.buffer_rule(lengths)
 }

@@ -9,11 +9,12 @@ use native.Mathlib.Omega.{arith}
 use borrow.Author.Tests.{eq-eqb, ne_eqb}
 use lib.ListN.{length}
 use Rattle.segment.specs.declared.Description.{Description}
-use Rattle.segment.specs.Segment.{Segment, intervals_of, size_of}
+use Rattle.segment.specs.Segment.{IsSegment, intervals_of, size_of}
 use Rattle.segment.specs.Places.{span_of}
 use Rattle.segment.proofs.Laws.{sizes}
 use Rattle.segment.proofs.Places.{span_intervals, intervals_few}
 use Rattle.command.specs.declared.Command.{Command}
+use Rattle.command.specs.Tags.{tag_of, application_of, mask_of}
 use Rattle.interval.specs.declared.Escape.{Escape}
 use Rattle.interval.specs.declared.Rules.{Rules}
 use Rattle.interval.specs.declared.Place.{Place}
@@ -33,14 +34,14 @@ module _ (d : Description) (c : Command) where
   unfolding first_tag
   tag_one k = rw (eq-eqb d.kind 1 k)
 
-  pub tag_other : (d.kind ≡ 1 → ⊥) → first_tag d c ≡ c.tag
+  pub tag_other : (d.kind ≡ 1 → ⊥) → first_tag d c ≡ tag_of c
   unfolding first_tag
   tag_other k = rw (ne_eqb d.kind 1 k)
 
   -- ---- the structs, field by field
   pub rules_are : (side : Side) (n z : ℕ) (k : Columns) (u v a r : Bool) (e : Escape) → n ≡ intervals_of d → z ≡ size_of d → k ≡ columns_of c.code
       → u ≡ application_known d c → v ≡ reference_known d c → a ≡ (k.application && u) → r ≡ (k.reference && v) → e ≡ escape_of side d.kind
-      → ◌≡◌ {A = Rules} (record { intervals = n; size = z; guard = k.guard; application = a; reference = r; expected = c.application; mask = c.mask; escape = e }) (rules_of side d c)
+      → ◌≡◌ {A = Rules} (record { intervals = n; size = z; guard = k.guard; application = a; reference = r; expected = application_of c; mask = mask_of c; escape = e }) (rules_of side d c)
   unfolding rules_of
   rules_are side n z k u v a r e p q w x y f g h = rw (f, g, h, p, q, w, x, y)
 
@@ -49,7 +50,7 @@ module _ (d : Description) (c : Command) where
   start_is t e = rw e
 
 -- so many blocks of a side, from the command's address on, are a run that can be judged
-pub side_run : (side : Side) (d : Description) (c : Command) (count : ℕ) (s : List ℕ) → Segment d → (d.kind ≡ 0 → ⊥) → count ≤ 65536
+pub side_run : (side : Side) (d : Description) (c : Command) (count : ℕ) (s : List ℕ) → IsSegment d → (d.kind ≡ 0 → ⊥) → count ≤ 65536
     → c.address + count ≤ 2 ^ 63 → length s ≡ span_of d count → Run (rules_of side d c) count (start_of d c) s
 unfolding rules_of start_of
 side_run side d c count s segment fields few end long =

@@ -8,6 +8,7 @@ use lib.Dec.{eqb, lit<}
 use Rattle.segment.specs.declared.Description.{Description}
 use Rattle.segment.specs.Segment.{intervals_of}
 use Rattle.command.specs.declared.Command.{Command}
+use Rattle.command.specs.Tags.{tag_of}
 use Rattle.interval.specs.declared.Place.{Place}
 use Rattle.words.proofs.Turns.{after}
 use Rattle.judge.specs.Judge.{next_interval, next_block}
@@ -16,11 +17,11 @@ use Rattle.rules.specs.Rules.{start_of, first_tag}
 use Rattle.rules.specs.Intervals.{place_at}
 
 -- the first tag is one of four bytes
-pub tag_small : (d : Description) (c : Command) → c.tag < 2 ^ 32 → first_tag d c < 2 ^ 32
+pub tag_small : (d : Description) (c : Command) → tag_of c < 2 ^ 32 → first_tag d c < 2 ^ 32
 unfolding first_tag
 tag_small d c h = by (eqb d.kind 1)
   where
-    by : (b : Bool) → cond b (c.address % 2 ^ 32) c.tag < 2 ^ 32
+    by : (b : Bool) → cond b (c.address % 2 ^ 32) (tag_of c) < 2 ^ 32
     by true = mod-lt c.address (lit< tt)
     by false = h
 

@@ -1,7 +1,7 @@
 -- The intervals of blocks that are checked, one by one: their places, their verdicts.
 use Rattle.std.specs.Prelude.{ℕ, ◌+◌, ◌*◌, ◌%◌, ◌^◌, Bool, cond, List}
-use Rattle.answer.specs.declared.Answer.{Answer}
-use Rattle.answer.specs.declared.Answer.TheVariants as answers
+use Rattle.answer.specs.Answer.{Answer}
+use Rattle.answer.specs.Answer as answers
 use Rattle.segment.specs.declared.Description.{Description}
 use Rattle.segment.specs.Segment.{intervals_of, size_of}
 use Rattle.segment.specs.Places.{block_at, interval_at}
@@ -29,4 +29,4 @@ skipped side d c s j = any_escapes (rules_of side d c).escape (size_of d) (inter
 -- intervals in order, and in one interval guard, application, reference"
 abbrev pub verdict_at : Side → Description → Command → List ℕ → ℕ → ℕ → Answer
 verdict_at side d c s j i =
-    cond (skipped side d c s j) answers.Good (judge_interval (rules_of side d c) (place_at d c j i) (interval_at d s j i))
+    cond (skipped side d c s j) answers.good (judge_interval (rules_of side d c) (place_at d c j i) (interval_at d s j i))

@@ -3,6 +3,7 @@ use Rattle.std.specs.Prelude.{ℕ, ◌%◌, ◌^◌, Bool, true, false, ◌&&◌
 use Rattle.segment.specs.declared.Description.{Description}
 use Rattle.segment.specs.Segment.{intervals_of, size_of}
 use Rattle.command.specs.declared.Command.{Command}
+use Rattle.command.specs.Tags.{long, tag_of, application_of, mask_of}
 use Rattle.interval.specs.declared.Escape.{Escape}
 use Rattle.interval.specs.declared.Escape.TheVariants.{Never, Tag, Both}
 use Rattle.interval.specs.declared.Rules.{Rules}
@@ -26,15 +27,15 @@ columns_of code =
 
 -- "Application: only with a 32-byte command and ATO 1"
 unfoldable pub application_known : Description → Command → Bool
-application_known d c = c.long && eqb d.ato 1
+application_known d c = long c && eqb d.ato 1
 
 -- "Reference: type 1 expects the low four bytes of the command's address first; type 2 expects the first tag of a 32-byte
 -- command, and nothing with other commands; type 3 expects nothing."
 unfoldable pub reference_known : Description → Command → Bool
-reference_known d c = eqb d.kind 1 || (eqb d.kind 2 && c.long)
+reference_known d c = eqb d.kind 1 || (eqb d.kind 2 && long c)
 
 unfoldable pub first_tag : Description → Command → ℕ
-first_tag d c = cond (eqb d.kind 1) (c.address % 2 ^ 32) c.tag
+first_tag d c = cond (eqb d.kind 1) (c.address % 2 ^ 32) (tag_of c)
 
 -- "Escape, on READ and VERIFY only: application tag FFFFh for types 1 and 2; FFFFh with reference FFFFFFFFh for type 3.": of what is
 -- stored, not of what is sent
@@ -51,8 +52,8 @@ rules_of side d c =
       guard = (columns_of c.code).guard;
       application = (columns_of c.code).application && application_known d c;
       reference = (columns_of c.code).reference && reference_known d c;
-      expected = c.application;
-      mask = c.mask;
+      expected = application_of c;
+      mask = mask_of c;
       escape = escape_of side d.kind;
     }
 

@@ -2,12 +2,11 @@
 #![tactic(auto)]
 
 ghost use Rattle.std.specs.Prelude.{◌≡◌};
-ghost use Rattle.segment.specs.Segment.{Segment};
 ghost use Rattle.rules.specs.Rules.{columns_in, columns_of, application_known, reference_known, first_tag, escape_of, rules_of, start_of};
 
 use command::Command;
 use interval::{Escape, Place, Rules};
-use segment::Description;
+use segment::{Description, Segment};
 use sides::Side;
 
 // Which fields a protect code chooses.
@@ -18,6 +17,7 @@ pub struct Columns {
     pub reference: bool,
 }
 
+// Kept: with it the rows below stand as in the document's table.
 fn columns_in(guard: bool, application: bool, reference: bool) -> Columns
     ensures { result ≡ columns_in guard application reference }
 {
@@ -42,16 +42,18 @@ fn columns_of(code: u8) -> Columns
     }
 }
 
+#[tactic(auto, using(std::proofs::lemmas::Bool::Decides::nat_tests), unfolding(crate::specs::Rules::application_known))]
 fn application_known(d: Description, c: Command) -> bool
     ensures { result ≡ application_known d c }
 {
-    words::both(c.long, d.ato == 1)
+    c.tags.is_some() && d.ato == 1
 }
 
+#[tactic(auto, using(std::proofs::lemmas::Bool::Decides::nat_tests), unfolding(crate::specs::Rules::reference_known))]
 fn reference_known(d: Description, c: Command) -> bool
     ensures { result ≡ reference_known d c }
 {
-    words::either(d.kind == 1, words::both(d.kind == 2, c.long))
+    d.kind == 1 || (d.kind == 2 && c.tags.is_some())
 }
 
 fn first_tag(d: Description, c: Command) -> u32
@@ -60,7 +62,7 @@ fn first_tag(d: Description, c: Command) -> u32
     if d.kind == 1 {
         (c.address % 0x1_0000_0000) as u32
     } else {
-        c.tag
+        c.tag()
     }
 }
 
@@ -74,22 +76,19 @@ fn escape_of(side: Side, kind: u64) -> Escape
 }
 
 // How the intervals of a side are judged.
-pub fn rules(side: Side, d: Description, c: Command) -> Rules
-    requires { Segment d }
-    ensures { result ≡ rules_of side d c }
+pub fn rules(side: Side, d: Segment, c: Command) -> Rules
+    ensures { result ≡ rules_of side d.numbers c }
 {
     let columns = columns_of(c.code);
-    let application = words::both(columns.application, application_known(d, c));
-    let reference = words::both(columns.reference, reference_known(d, c));
     Rules {
-        intervals: segment::intervals(d),
-        size: segment::size(d),
+        intervals: d.intervals(),
+        size: d.size(),
         guard: columns.guard,
-        application,
-        reference,
-        expected: c.application,
-        mask: c.mask,
-        escape: escape_of(side, d.kind),
+        application: columns.application && application_known(d.numbers, c),
+        reference: columns.reference && reference_known(d.numbers, c),
+        expected: c.application(),
+        mask: c.mask(),
+        escape: escape_of(side, d.numbers.kind),
     }
 }
 

@@ -9,10 +9,9 @@ use native.Mathlib.Omega.{arith}
 use borrow.Author.Tests.{eq-eqb, ne_eqb, eqb-true}
 use lib.Dec.{eqb}
 use lib.ListN.{length, take, drop}
-use Rattle.answer.specs.Answer.{is_good}
-use Rattle.answer.specs.declared.Answer.{Answer}
+use Rattle.answer.specs.Answer.{Answer, is_good}
 use Rattle.segment.specs.declared.Description.{Description}
-use Rattle.segment.specs.Segment.{Segment, intervals_of, stored_of, length_of}
+use Rattle.segment.specs.Segment.{IsSegment, intervals_of, stored_of, length_of}
 use Rattle.segment.specs.Places.{block_at}
 use Rattle.segment.proofs.Laws.{stored_intervals}
 use Rattle.segment.proofs.Places.{span_few}
@@ -60,7 +59,7 @@ module _ (d : Description) where
       by false true q f = absurd (true≢false (sym f))
       by false false q f = absurd (true≢false (sym f))
 
-  module _ (g : Segment d) where
+  module _ (g : IsSegment d) where
     pub one_interval : d.kind ≡ 1 → intervals_of d ≡ 1
     unfolding intervals_of
     one_interval k = ap (λ (e : ℕ). 2 ^ e) (g.plain (omega (arith, k)))

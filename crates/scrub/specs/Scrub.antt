@@ -1,8 +1,7 @@
 -- Document 02, "Scrubbing a few blocks at a time". A place is the number of blocks before it: that of the first block is 0, and N is behind
 -- the last.
 use Rattle.std.specs.Prelude.{ℕ, zero, suc, ◌+◌, ◌-◌, Bool, not, ◌&&◌, cond, List, ◌≡◌, eqb, leb, length}
-use Rattle.answer.specs.Answer.{is_good, or_else}
-use Rattle.answer.specs.declared.Answer.{Answer}
+use Rattle.answer.specs.Answer.{Answer, is_good, or_else}
 use Rattle.segment.specs.declared.Description.{Description}
 use Rattle.segment.specs.Rules.{segment_rules}
 use Rattle.segment.specs.Places.{place_rule, block_at}

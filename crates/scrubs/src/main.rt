@@ -1,4 +1,5 @@
 // Runs cases of document 02's 'Scrubbing a few blocks at a time' on document 01's segment M, and prints what each hands back.
+// Kept: printed through `io`, for the reason that stands in `shown`.
 #![tactic(auto)]
 
 fn main() {

@@ -9,7 +9,7 @@ use borrow.Author.Rules.{rules}
 use borrow.Author.Tests.{le-leb, eq-eqb, ne_eqb}
 use lib.Dec.{T, eqb, leb, leb→le, eqb→eq, eqb-suc-zero}
 use Rattle.segment.specs.declared.Description.{Description}
-use Rattle.segment.specs.Segment.{is_segment, Segment, intervals_of, size_of, stored_of, length_of}
+use Rattle.segment.specs.Segment.{is_segment, IsSegment, intervals_of, size_of, stored_of, length_of}
 
 -- ---- the test and the facts
 parts : (a b : Bool) → T (a && b) → T a × T b
@@ -24,7 +24,7 @@ or_zero : (a b : ℕ) → (b < 2 → a ≡ 0) → (eqb a 0 || leb 2 b) ≡ true
 or_zero zero b h = refl
 or_zero (suc a) b h = rw (eqb-suc-zero a) (le-leb 2 b (lt_of_not-le (λ l. suc-ne-zero _ (h (omega arith)))))
 
-pub segment_facts : (d : Description) → T (is_segment d) → Segment d
+pub segment_facts : (d : Description) → T (is_segment d) → IsSegment d
 unfolding is_segment
 segment_facts d t =
     let kind = parts (leb d.kind 3) _ t in
@@ -49,7 +49,7 @@ segment_facts d t =
       end = leb→le _ _ count.1;
     }
 
-pub is_segment_lem : (d : Description) → Segment d → is_segment d ≡ true
+pub is_segment_lem : (d : Description) → IsSegment d → is_segment d ≡ true
 unfolding is_segment
 is_segment_lem d s =
     rw (
@@ -65,7 +65,7 @@ is_segment_lem d s =
       le-leb (d.first + d.count) (2 ^ 63) s.end,
     )
 
-pub segment_test : (d : Description) → Segment d → T (is_segment d)
+pub segment_test : (d : Description) → IsSegment d → T (is_segment d)
 segment_test d s = rw (is_segment_lem d s) tt
 
 -- ---- the sizes
@@ -107,7 +107,7 @@ pub stored_fields : (d : Description) → (d.kind ≡ 0 → ⊥) → stored_of d
 unfolding stored_of
 stored_fields d n = rw (ne_eqb d.kind 0 n)
 
-module _ (d : Description) (s : Segment d) where
+module _ (d : Description) (s : IsSegment d) where
   intervals_cut : Cut d.exponent d.block
   intervals_cut = cut d.exponent d.block s.exponent s.least s.eights
 

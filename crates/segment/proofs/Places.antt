@@ -11,17 +11,16 @@ use lib.Dec.{ltb}
 use lib.ListN.{drop}
 use lib.Seq.{drop-drop}
 use Rattle.words.proofs.Choice.{or_none}
-use Rattle.answer.specs.Answer.{is_good}
-use Rattle.answer.specs.declared.Answer.TheVariants as answers
+use Rattle.answer.specs.Answer.{good, is_good}
 use Rattle.answer.proofs.Ladder.{not_refused}
 use Rattle.segment.specs.declared.Description.{Description}
-use Rattle.segment.specs.Segment.{Segment, intervals_of, size_of, stored_of, length_of}
+use Rattle.segment.specs.Segment.{IsSegment, intervals_of, size_of, stored_of, length_of}
 use Rattle.segment.specs.Places.{range_rule, offset_of, span_of, interval_at, begin_of}
 use Rattle.segment.proofs.Laws.{sizes, stored_intervals}
 
 module _ (d : Description) (address count : ℕ) where
   -- ---- the address: whole numbers, no wrap
-  pub inside : d.first ≤ address → address + count ≤ d.first + d.count → range_rule d address count ≡ answers.Good
+  pub inside : d.first ≤ address → address + count ≤ d.first + d.count → range_rule d address count ≡ good
   unfolding range_rule
   inside h l = rw (le-ltb address d.first h, le-ltb (d.first + d.count) (address + count) l)
 
@@ -38,7 +37,7 @@ module _ (d : Description) (address count : ℕ) where
       rw (whole, ← add-mul (address - d.first) count (stored_of d))
       (mul-le-mul_right (stored_of d) (let h : address - d.first + count ≤ d.count = omega (arith, from, to) in h))
 
-module _ (d : Description) (n : ℕ) (s : Segment d) where
+module _ (d : Description) (n : ℕ) (s : IsSegment d) where
   pub span_few : n ≤ 65536 → n * stored_of d ≤ 65536 * 4160
   span_few h = mul-le-mul h (sizes d s).stored_most
 
@@ -53,7 +52,7 @@ interval_begins d s j i =
     ∙ ap (λ (n : ℕ). drop n s) (ap (λ (n : ℕ). n + i * (size_of d + 8)) (sym (mul_assoc j (intervals_of d) (size_of d + 8))) ∙ sym (add-mul (j * intervals_of d) i (size_of d + 8)))
 
 -- ---- so many blocks: their bytes by intervals, and how many intervals they have
-module _ (d : Description) (s : Segment d) (count : ℕ) where
+module _ (d : Description) (s : IsSegment d) (count : ℕ) where
   pub span_intervals : (d.kind ≡ 0 → ⊥) → count * (intervals_of d * (size_of d + 8)) ≡ span_of d count
   unfolding span_of
   span_intervals k = ap (λ (x : ℕ). count * x) (sym (stored_intervals d s k))

@@ -1,7 +1,6 @@
 -- Where blocks and intervals lie: "The segment's bytes are N blocks end to end".
 use Rattle.std.specs.Prelude.{ℕ, ◌+◌, ◌*◌, ◌-◌, ◌||◌, List, ltb, take, drop}
-use Rattle.answer.specs.Answer.{refused_if}
-use Rattle.answer.specs.declared.Answer.{Answer}
+use Rattle.answer.specs.Answer.{Answer, refused_if}
 use Rattle.answer.specs.declared.Reason.TheVariants as reasons
 use Rattle.segment.specs.declared.Description.{Description}
 use Rattle.segment.specs.Segment.{intervals_of, size_of, stored_of}

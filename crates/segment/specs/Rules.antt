@@ -1,7 +1,6 @@
 -- What every call on a segment asks first: "1; 2".
 use Rattle.std.specs.Prelude.{ℕ, not, eqb}
-use Rattle.answer.specs.Answer.{or_else, refused_if}
-use Rattle.answer.specs.declared.Answer.{Answer}
+use Rattle.answer.specs.Answer.{Answer, or_else, refused_if}
 use Rattle.answer.specs.declared.Reason.TheVariants as reasons
 use Rattle.segment.specs.declared.Description.{Description}
 use Rattle.segment.specs.Segment.{is_segment, length_of}

@@ -22,7 +22,7 @@ is_segment d =
     && leb (d.first + d.count) (2 ^ 63)))))))))
 
 -- the same as facts
-pub record Segment (d : Description) : Type 0 where
+pub record IsSegment (d : Description) : Type 0 where
   pub kind : d.kind ≤ 3
   pub ato : d.ato ≤ 1
   pub least : 8 ≤ d.block

@@ -1,13 +1,15 @@
 // The description of a segment, by value: which descriptions are segments, the sizes that follow, and where blocks lie.
 #![tactic(auto)]
 
-ghost use Rattle.std.specs.Prelude.{◌≡◌, ◌+◌, ◌^◌, ◌≤◌, leb};
-ghost use Rattle.segment.specs.Segment.{described, is_segment, Segment, intervals_of, size_of, stored_of, length_of};
+ghost use Rattle.std.specs.Prelude.{◌≡◌, ◌+◌, ◌^◌, ◌≤◌, leb, IfOk};
+ghost use Rattle.answer.specs.Answer.{answer_of};
+ghost use Rattle.segment.specs.Segment.{described, is_segment, IsSegment, intervals_of, size_of, stored_of, length_of};
 ghost use Rattle.segment.specs.Rules.{description_rule, segment_rules};
 ghost use Rattle.segment.specs.Places.{range_rule, place_rule, offset_of, span_of};
 
-use answer::{Answer, Reason};
+use answer::{Answer, Reason, Refusal};
 
+// Kept: the type is a number, as all of them: a C program passes any six, and each gets its answer.
 // Type P, block length B, exponent e, first address W, count N and ATO, as wide as a caller can pass them.
 #[derive(Clone, Copy)]
 pub struct Description {
@@ -19,6 +21,7 @@ pub struct Description {
     pub ato: u64,
 }
 
+// Kept: with it the six exports that are handed numbers say their order once.
 // The description that six numbers give, in the order in which they are handed over.
 pub fn described(
     kind: u64,
@@ -44,84 +47,27 @@ pub fn described(
 fn ends(address: u64, count: u64, end: u64) -> bool
     ensures { result ≡ leb (address + count) end }
 {
-    if end < count {
-        return false;
-    }
-    address <= end - count
+    count <= end && address <= end - count
 }
 
 // Whether the numbers describe a segment.
+#[tactic(auto, using(std::proofs::lemmas::Bool::Decides::nat_tests), unfolding(crate::specs::Segment::is_segment))]
 fn is_segment(d: Description) -> bool
     ensures { result ≡ is_segment d }
 {
-    let bits = words::both(d.kind <= 3, d.ato <= 1);
-    let block = words::both(8 <= d.block, words::both(d.block <= 4096, d.block % 8 == 0));
-    let power = words::both(d.exponent <= 3, words::either(d.exponent == 0, 2 <= d.kind));
-    let end = ends(d.first, d.count, 0x8000_0000_0000_0000);
-    let count = words::both(1 <= d.count, words::both(d.count <= 65536, end));
-    words::both(words::both(bits, block), words::both(power, count))
-}
-
-// The intervals of a block.
-pub fn intervals(d: Description) -> usize
-    requires { Segment d }
-    ensures { result ≡ intervals_of d }
-{
-    1usize << d.exponent
-}
-
-// The data bytes of an interval.
-pub fn size(d: Description) -> usize
-    requires { Segment d }
-    ensures { result ≡ size_of d }
-{
-    d.block as usize / intervals(d)
-}
-
-// The bytes of a stored block.
-pub fn stored(d: Description) -> usize
-    requires { Segment d }
-    ensures { result ≡ stored_of d }
-{
-    if d.kind == 0 {
-        return d.block as usize;
+    if 3 < d.kind || 1 < d.ato {
+        return false;
     }
-    d.block as usize + 8 * intervals(d)
-}
-
-// The bytes of the segment.
-pub fn length(d: Description) -> usize
-    requires { Segment d }
-    ensures { result ≡ length_of d }
-{
-    d.count as usize * stored(d)
-}
-
-// Refusal 1, of numbers that describe no segment.
-pub fn description_rule(d: Description) -> Answer
-    ensures { result ≡ description_rule d }
-{
-    answer::refused_if(!is_segment(d), Reason::DescriptionBad)
-}
-
-// Refusals 1 and 2, which every call on a segment of so many bytes begins with.
-pub fn segment_rules(d: Description, bytes: usize) -> Answer
-    ensures { result ≡ segment_rules d bytes }
-{
-    let a = description_rule(d);
-    if !answer::is_good(a) {
-        return a;
+    if d.block < 8 || 4096 < d.block || d.block % 8 != 0 {
+        return false;
     }
-    answer::refused_if(bytes != length(d), Reason::SegmentLengthWrong)
-}
-
-// Refusal 7, of `count` blocks from `address` on that are not all of the segment.
-pub fn range_rule(d: Description, address: u64, count: u64) -> Answer
-    requires { Segment d }
-    ensures { result ≡ range_rule d address count }
-{
-    let outside = words::either(address < d.first, !ends(address, count, d.first + d.count));
-    answer::refused_if(outside, Reason::AddressOutOfRange)
+    if 3 < d.exponent || (d.exponent != 0 && d.kind < 2) {
+        return false;
+    }
+    if d.count < 1 || 65536 < d.count {
+        return false;
+    }
+    ends(d.first, d.count, 0x8000_0000_0000_0000)
 }
 
 // Refusal 7, of a place above the number of blocks: the place of a block is the number of those before it.
@@ -131,18 +77,87 @@ pub fn place_rule(d: Description, place: u64) -> Answer
     answer::refused_if(d.count < place, Reason::AddressOutOfRange)
 }
 
-// Where the block of an address begins in the segment.
-pub fn offset(d: Description, address: u64) -> usize
-    requires { (Segment d) × (d.first ≤ address) × (address ≤ d.first + d.count) }
-    ensures { result ≡ offset_of d address }
-{
-    (address - d.first) as usize * stored(d)
+// A segment: the numbers of a description that are seen to describe one.
+#[derive(Clone, Copy)]
+pub struct Segment {
+    pub numbers: Description,
+    pub ghost is: { IsSegment numbers },
 }
 
-// How many bytes so many blocks have.
-pub fn span(d: Description, count: u64) -> usize
-    requires { (Segment d) × (count ≤ 65536) }
-    ensures { result ≡ span_of d count }
-{
-    count as usize * stored(d)
+impl Segment {
+    // Refusal 1, of numbers that describe no segment.
+    pub fn of(d: Description) -> Result<Segment, Refusal>
+        ensures answer { answer_of result ≡ description_rule d }
+        ensures numbers { IfOk result (λ s. s.numbers ≡ d) }
+    {
+        answer::refused_if(!is_segment(d), Reason::DescriptionBad)?;
+        Ok(Segment { numbers: d })
+    }
+
+    // Refusals 1 and 2, which every call on a segment of so many bytes begins with.
+    pub fn of_bytes(d: Description, bytes: usize) -> Result<Segment, Refusal>
+        ensures answer { answer_of result ≡ segment_rules d bytes }
+        ensures numbers { IfOk result (λ s. s.numbers ≡ d) }
+    {
+        let s = Segment::of(d)?;
+        answer::refused_if(bytes != s.length(), Reason::SegmentLengthWrong)?;
+        Ok(s)
+    }
+
+    // The intervals of a block.
+    pub fn intervals(self) -> usize
+        ensures { result ≡ intervals_of self.numbers }
+    {
+        1usize << self.numbers.exponent
+    }
+
+    // The data bytes of an interval.
+    pub fn size(self) -> usize
+        ensures { result ≡ size_of self.numbers }
+    {
+        self.numbers.block as usize / self.intervals()
+    }
+
+    // The bytes of a stored block.
+    pub fn stored(self) -> usize
+        ensures { result ≡ stored_of self.numbers }
+    {
+        let d = self.numbers;
+        if d.kind == 0 {
+            return d.block as usize;
+        }
+        d.block as usize + 8 * self.intervals()
+    }
+
+    // The bytes of the segment.
+    pub fn length(self) -> usize
+        ensures { result ≡ length_of self.numbers }
+    {
+        self.numbers.count as usize * self.stored()
+    }
+
+    // Refusal 7, of `count` blocks from `address` on that are not all of the segment.
+    pub fn range_rule(self, address: u64, count: u64) -> Answer
+        ensures { result ≡ range_rule self.numbers address count }
+    {
+        let d = self.numbers;
+        let outside = address < d.first || !ends(address, count, d.first + d.count);
+        answer::refused_if(outside, Reason::AddressOutOfRange)
+    }
+
+    // Where the block of an address begins in the segment.
+    pub fn offset(self, address: u64) -> usize
+        requires { (self.numbers.first ≤ address) × (address ≤ self.numbers.first + self.numbers.count) }
+        ensures { result ≡ offset_of self.numbers address }
+    {
+        (address - self.numbers.first) as usize * self.stored()
+    }
+
+    // How many bytes so many blocks have.
+    pub fn span(self, count: u64) -> usize
+        requires { count ≤ 65536 }
+        ensures { result ≡ span_of self.numbers count }
+    {
+        count as usize * self.stored()
+    }
 }

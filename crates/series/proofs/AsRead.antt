@@ -12,12 +12,11 @@ use lib.Dec.{eqb, lit<}
 use lib.ListN.{take, drop}
 use lib.Seq.{drop-drop}
 use Rattle.words.proofs.Turns.{after, piece_at}
-use Rattle.answer.specs.Answer.{is_good}
-use Rattle.answer.specs.declared.Answer.{Answer}
-use Rattle.answer.specs.declared.Answer.TheVariants as answers
+use Rattle.answer.specs.Answer.{is_good, Answer}
+use Rattle.answer.specs.Answer as answers
 use Rattle.answer.proofs.Ladder.{good_is}
 use Rattle.segment.specs.declared.Description.{Description}
-use Rattle.segment.specs.Segment.{Segment, intervals_of, size_of}
+use Rattle.segment.specs.Segment.{IsSegment, intervals_of, size_of}
 use Rattle.segment.specs.Places.{offset_of, span_of, blocks_from, block_at}
 use Rattle.segment.proofs.Laws.{stored_intervals}
 use Rattle.segment.proofs.Places.{span_intervals}
@@ -54,12 +53,12 @@ module _ (d : Description) (s : List ℕ) (at count : ℕ) where
   its_blocks = refl
 
   -- type 0 is not judged
-  judged_plain : d.kind ≡ 0 → judged ≡ answers.Good
+  judged_plain : d.kind ≡ 0 → judged ≡ answers.good
   unfolding checked_on
   judged_plain k = judged_none Stored d read (blocks_of d read s) (rw (eq-eqb d.kind 0 k) refl)
 
   -- ---- the others are, each block as it stands in the segment
-  module _ (g : Segment d) (n : d.kind ≡ 0 → ⊥) where
+  module _ (g : IsSegment d) (n : d.kind ≡ 0 → ⊥) where
     abbrev stride : ℕ
     stride = intervals_of d * (size_of d + 8)
 
@@ -108,18 +107,18 @@ module _ (d : Description) (s : List ℕ) (at count : ℕ) where
         ∙ ap not (sym (block_alike (rules_of Stored d (read_all d)) (reached j) (place_at d (read_all d) (at + j) 0) (block_at d s (at + j)) (same_tag j)))
         ∙ ap (λ (l : List ℕ). not (is_good (judging (reached j) l))) (sym there)
 
-    right_exactly : (judged ≡ answers.Good) ↔ ((j : ℕ) → j < count → faulty_at d s (at + j) ≡ false)
+    right_exactly : (judged ≡ answers.good) ↔ ((j : ℕ) → j < count → faulty_at d s (at + j) ≡ false)
     right_exactly =
         let each = first_good judging (next_block (intervals_of d)) stride count (start_of d read) (block_at d s at) in (
           λ e j h. piece_fault j ∙ ap (λ (a : Answer). not (is_good a)) (each.0 (sym judged_is ∙ e) j h),
           λ right. judged_is ∙ each.1 (λ j h. good_is (piece j) (not-false _ (sym (piece_fault j) ∙ right j h))),
         )
 
-pub none_faulty_as_read : (d : Description) (s : List ℕ) (at count : ℕ) → Segment d
+pub none_faulty_as_read : (d : Description) (s : List ℕ) (at count : ℕ) → IsSegment d
     → let read = sixteen Read (d.first + at) count in
-    (judged_on Stored d read (blocks_of d read s) ≡ answers.Good) ↔ ((j : ℕ) → j < count → faulty_at d s (at + j) ≡ false)
+    (judged_on Stored d read (blocks_of d read s) ≡ answers.good) ↔ ((j : ℕ) → j < count → faulty_at d s (at + j) ≡ false)
 none_faulty_as_read d s at count g = by (eqb d.kind 0) refl
   where
-    by : (b : Bool) → eqb d.kind 0 ≡ b → (judged d s at count ≡ answers.Good) ↔ ((j : ℕ) → j < count → faulty_at d s (at + j) ≡ false)
+    by : (b : Bool) → eqb d.kind 0 ≡ b → (judged d s at count ≡ answers.good) ↔ ((j : ℕ) → j < count → faulty_at d s (at + j) ≡ false)
     by true e = let k = eqb-true d.kind 0 e in (λ f j h. fault_plain d s (at + j) k, λ right. judged_plain d s at count k)
     by false e = right_exactly d s at count g (eqb-false d.kind 0 e)

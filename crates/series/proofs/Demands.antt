@@ -10,12 +10,11 @@ use native.Mathlib.Omega.{arith}
 use borrow.Author.Tests.{eqb-true, eqb-false, ne_eqb, le-ltb, leb-true, leb-false}
 use lib.Dec.{eqb, leb}
 use lib.ListN.{length}
-use Rattle.answer.specs.Answer.{is_good}
-use Rattle.answer.specs.declared.Answer.{Answer}
-use Rattle.answer.specs.declared.Answer.TheVariants as answers
+use Rattle.answer.specs.Answer.{is_good, Answer}
+use Rattle.answer.specs.Answer as answers
 use Rattle.answer.proofs.Ladder.{both_good}
 use Rattle.segment.specs.declared.Description.{Description}
-use Rattle.segment.specs.Segment.{Segment, length_of}
+use Rattle.segment.specs.Segment.{IsSegment, length_of}
 use Rattle.segment.specs.Rules.{segment_rules}
 use Rattle.segment.specs.Places.{place_rule}
 use Rattle.segment.proofs.Rules.{described_rule, length_right}
@@ -70,7 +69,7 @@ module _ (d : Description) (s : List ℕ) (place blocks : ℕ) where
   refused_hands_back e = ap total_of (call_refused (sym (ap is_good answer_is_the_rules) ∙ e))
 
   -- good exactly where it is a segment of so many bytes and the place is not above N: a fault is no refusal
-  pub good_exactly : ((scrubbed d s place blocks).answer ≡ answers.Good) ↔ (Segment d × (length_of d ≡ length s) × (place ≤ d.count))
+  pub good_exactly : ((scrubbed d s place blocks).answer ≡ answers.good) ↔ (IsSegment d × (length_of d ≡ length s) × (place ≤ d.count))
   unfolding scrub_rules place_rule
   good_exactly = (
     λ e. in_order d (length s) place (ap is_good (sym answer_is_the_rules ∙ e)),
@@ -84,7 +83,7 @@ module _ (d : Description) (s : List ℕ) (place blocks : ℕ) where
   count_is_the_distance = told.next
 
   -- "It covers exactly the smaller of that number and the blocks left."
-  pub covers_the_smaller : (scrubbed d s place blocks).answer ≡ answers.Good
+  pub covers_the_smaller : (scrubbed d s place blocks).answer ≡ answers.good
       → (blocks ≤ d.count - place → (scrubbed d s place blocks).judged ≡ blocks)
       × (d.count - place ≤ blocks → (scrubbed d s place blocks).judged ≡ d.count - place)
   covers_the_smaller good =

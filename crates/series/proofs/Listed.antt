@@ -10,12 +10,11 @@ use native.Mathlib.Omega.{arith}
 use borrow.Author.Tests.{eqb-true, eqb-false, not-true, not-false}
 use lib.Dec.{eqb, lit<, lit≤}
 use lib.ListN.{length, get_or}
-use Rattle.answer.specs.Answer.{is_good}
-use Rattle.answer.specs.declared.Answer.{Answer}
-use Rattle.answer.specs.declared.Answer.TheVariants as answers
+use Rattle.answer.specs.Answer.{is_good, Answer}
+use Rattle.answer.specs.Answer as answers
 use Rattle.answer.proofs.Ladder.{good_is, not_both}
 use Rattle.segment.specs.declared.Description.{Description}
-use Rattle.segment.specs.Segment.{Segment, intervals_of, size_of, stored_of, length_of}
+use Rattle.segment.specs.Segment.{IsSegment, intervals_of, size_of, stored_of, length_of}
 use Rattle.segment.specs.Places.{block_at, interval_at}
 use Rattle.segment.proofs.Laws.{sizes}
 use Rattle.command.specs.Sixteen.{sixteen}
@@ -73,15 +72,15 @@ module _ (d : Description) (s : List ℕ) (j : ℕ) where
   abbrev judged_block : Answer
   judged_block = judge_block (rules_of Stored d (read_all d)) (place_at d (read_all d) j 0) (block_at d s j)
 
-  block_is : judged_block ≡ cond (skipped Stored d (read_all d) s j) answers.Good in_block
+  block_is : judged_block ≡ cond (skipped Stored d (read_all d) s j) answers.good in_block
   unfolding judge_block judge_intervals rules_of
   block_is = refl
 
-  block_right : judged_block ≡ answers.Good → (i : ℕ) → i < intervals_of d → verdict_at Stored d (read_all d) s j i ≡ answers.Good
+  block_right : judged_block ≡ answers.good → (i : ℕ) → i < intervals_of d → verdict_at Stored d (read_all d) s j i ≡ answers.good
   block_right e i within = by (skipped Stored d (read_all d) s j) (sym block_is ∙ e)
     where
-      by : (b : Bool) → cond b answers.Good in_block ≡ answers.Good
-          → cond b answers.Good (judging (place_at d (read_all d) j i) (interval_at d s j i)) ≡ answers.Good
+      by : (b : Bool) → cond b answers.good in_block ≡ answers.good
+          → cond b answers.good (judging (place_at d (read_all d) j i) (interval_at d s j i)) ≡ answers.good
       by true f = refl
       by false f =
           sym (piece_is i) ∙ (first_good judging next_interval (size_of d + 8) (intervals_of d) (place_at d (read_all d) j 0) (block_at d s j)).0 f i within
@@ -89,7 +88,7 @@ module _ (d : Description) (s : List ℕ) (j : ℕ) where
   block_wrong : is_good judged_block ≡ false → (i : ℕ) × ((i < intervals_of d) × (is_good (verdict_at Stored d (read_all d) s j i) ≡ false))
   block_wrong e = by (skipped Stored d (read_all d) s j) refl (sym (ap is_good block_is) ∙ e)
     where
-      by : (b : Bool) → skipped Stored d (read_all d) s j ≡ b → is_good (cond b answers.Good in_block) ≡ false
+      by : (b : Bool) → skipped Stored d (read_all d) s j ≡ b → is_good (cond b answers.good in_block) ≡ false
           → (i : ℕ) × ((i < intervals_of d) × (is_good (verdict_at Stored d (read_all d) s j i) ≡ false))
       by true q f = absurd (true≢false f)
       by false q f =
@@ -97,7 +96,7 @@ module _ (d : Description) (s : List ℕ) (j : ℕ) where
           (w.at, (w.within, rw q (ap is_good (sym (piece_is w.at) ∙ w.here) ∙ w.wrong)))
 
 -- ---- the lines for the block in the listing
-module _ (d : Description) (s : List ℕ) (g : Segment d) (long : length_of d ≡ length s) (j : ℕ) (block : j < d.count) (x : Line) where
+module _ (d : Description) (s : List ℕ) (g : IsSegment d) (long : length_of d ≡ length s) (j : ℕ) (block : j < d.count) (x : Line) where
   listed : (d.kind ≡ 0 → ⊥) → faulty_at d s j ≡ true → FaultyLine d s j x
   unfolding line_at
   listed n e =
@@ -160,7 +159,7 @@ pub fault_whatever_ato : (d : Description) (s : List ℕ) (j : ℕ) → faulty_a
 unfolding faulty_at sixteen intervals_of size_of application_known reference_known first_tag rules_of
 fault_whatever_ato d s j = refl
 
-recorded_segment : (d : Description) → Segment d → Segment (recorded d)
+recorded_segment : (d : Description) → IsSegment d → IsSegment (recorded d)
 recorded_segment d g =
     record {
       kind = g.kind;
@@ -179,7 +178,7 @@ recorded_length : (d : Description) → length_of (recorded d) ≡ length_of d
 unfolding length_of stored_of intervals_of
 recorded_length d = refl
 
-pub faulty_exactly_where_the_program_lists : (d : Description) (s : List ℕ) → Segment d → length_of d ≡ length s → (j : ℕ) → j < d.count → (x : Line)
+pub faulty_exactly_where_the_program_lists : (d : Description) (s : List ℕ) → IsSegment d → length_of d ≡ length s → (j : ℕ) → j < d.count → (x : Line)
     → (faulty_at d s j ≡ true) ↔ FaultyLine (recorded d) s j x
 faulty_exactly_where_the_program_lists d s g long j block x =
     let e = fault_whatever_ato d s j in

@@ -6,14 +6,15 @@ use Prim.Native.Nat.{ℕ, ◌+◌, ◌*◌, ◌^◌, ◌≤◌}
 use native.Mathlib.Nat.{add-zero}
 use native.Mathlib.Omega.{arith}
 use lib.ListN.{length, length-append}
-use Rattle.writing.specs.Laid.{Written}
-use Rattle.writing.proofs.Writing.{written_none, written_then, written_as}
+use Rattle.writing.specs.declared.Pen.{Pen}
+use Rattle.writing.specs.Printed.{Printed}
+use Rattle.writing.proofs.Writing.{printed_none, printed_then, printed_as}
 use Rattle.lines.specs.declared.Line.{Line}
-use Rattle.sheet.specs.declared.Sheet.{Sheet}
+use Rattle.sheet.specs.declared.Counts.{Counts}
 use Rattle.lines.specs.declared.State.{State}
 use Rattle.lines.specs.declared.State.TheVariants.{Skipped, Guard, Ref, Ok}
 use Rattle.lines.specs.Lines.{line_text}
-use Rattle.sheet.specs.Sheet.{faulty, skips, count_of, lines_text, Printed, Room}
+use Rattle.sheet.specs.Sheet.{faulty, skips, count_of, lines_text, PrintedLines, Room}
 use Rattle.lines.proofs.LineLaws.{line_most}
 
 pub faulty_most : (x : State) → faulty x ≤ 1
@@ -51,61 +52,73 @@ count_most f h [] = omega arith
 count_most f h (l ∷ ls) = omega (arith, h l.state, count_most f h ls)
 
 -- ---- printed
-pub printed_none : (t : Sheet) (out : List ℕ) → Printed [] t out t out
+pub lines_none : (p : Pen) (c : Counts) → PrintedLines [] p c p c
 unfolding lines_text count_of
-printed_none t out =
-    record { text = written_none t.at out; lines = sym (add-zero _); faults = sym (add-zero _); skipped = sym (add-zero _) }
+lines_none p c = record { text = printed_none p; lines = sym (add-zero _); faults = sym (add-zero _); skipped = sym (add-zero _) }
 
-abbrev pub sheet : ℕ → ℕ → ℕ → ℕ → Sheet
-sheet at ls f k = record { at = at; lines = ls; faults = f; skipped = k }
-
-pub printed_one : (l m : Line) (t : Sheet) {out left : List ℕ} {at f k : ℕ} → l ≡ m → Written (line_text l) t.at out at left
-    → f ≡ faulty l.state → k ≡ skips l.state → Printed (m ∷ []) t out (sheet at (t.lines + 1) (t.faults + f) (t.skipped + k)) left
+pub lines_one : (l m : Line) {p q : Pen} {c d : Counts} → l ≡ m → Printed (line_text l) p q → d.lines ≡ c.lines + 1
+    → d.faults ≡ c.faults + faulty l.state → d.skipped ≡ c.skipped + skips l.state → PrintedLines (m ∷ []) p c q d
 unfolding lines_text count_of
-printed_one l m t {at = at} {f} {k} e w ef ek =
+lines_one l m e w ls f k =
     rw (← e)
     (record {
-      text = written_as (sym (append-nil (line_text l))) w;
-      lines = refl;
-      faults = omega arith;
-      skipped = omega arith;
+      text = printed_as (sym (append-nil (line_text l))) w;
+      lines = ls;
+      faults = omega (arith, f);
+      skipped = omega (arith, k);
     })
 
-pub printed_then : {a b : List Line} {t u v : Sheet} {out mid left : List ℕ} → Printed a t out u mid → Printed b u mid v left → Printed (a ++ b) t out v left
-printed_then {a} {b} p q =
+pub lines_then : {a b : List Line} {p q r : Pen} {c d e : Counts} → PrintedLines a p c q d → PrintedLines b q d r e → PrintedLines (a ++ b) p c r e
+lines_then {a} {b} f g =
     record {
-      text = written_as (sym (lines_append a b)) (written_then p.text q.text);
-      lines = omega (arith, p.lines, q.lines, length-append a b);
-      faults = omega (arith, p.faults, q.faults, count_append faulty a b);
-      skipped = omega (arith, p.skipped, q.skipped, count_append skips a b);
+      text = printed_as (sym (lines_append a b)) (printed_then f.text g.text);
+      lines = omega (arith, f.lines, g.lines, length-append a b);
+      faults = omega (arith, f.faults, g.faults, count_append faulty a b);
+      skipped = omega (arith, f.skipped, g.skipped, count_append skips a b);
     }
-
--- a sheet is its four numbers
-pub same_sheet : (x y : Sheet) → x.at ≡ y.at → x.lines ≡ y.lines → x.faults ≡ y.faults → x.skipped ≡ y.skipped → x ≡ y
-same_sheet x y at ls f k =
-    ap (λ (n : ℕ). sheet n x.lines x.faults x.skipped) at
-    ∙ ap (λ (n : ℕ). sheet y.at n x.faults x.skipped) ls
-    ∙ ap (λ (n : ℕ). sheet y.at y.lines n x.skipped) f
-    ∙ ap (sheet y.at y.lines y.faults) k
 
 -- the same lines, put in another way
-pub printed_as : {a b : List Line} {t u : Sheet} {out left : List ℕ} → a ≡ b → Printed a t out u left → Printed b t out u left
-printed_as e p = rw e at p
+pub lines_as : {a b : List Line} {p q : Pen} {c d : Counts} → a ≡ b → PrintedLines a p c q d → PrintedLines b p c q d
+lines_as e f = rw e at f
+
+-- counts are their three numbers
+abbrev pub counts : ℕ → ℕ → ℕ → Counts
+counts ls f k = record { lines = ls; faults = f; skipped = k }
+
+pub same_counts : (x y : Counts) → x.lines ≡ y.lines → x.faults ≡ y.faults → x.skipped ≡ y.skipped → x ≡ y
+same_counts x y ls f k =
+    ap (λ (n : ℕ). counts n x.faults x.skipped) ls
+    ∙ ap (λ (n : ℕ). counts y.lines n x.skipped) f
+    ∙ ap (counts y.lines y.faults) k
+
+-- the counts of no lines
+pub counts_none : {c : Counts} → (c.lines ≡ 0) × ((c.faults ≡ 0) × (c.skipped ≡ 0)) → c ≡ counts 0 0 0
+counts_none z = same_counts _ _ z.0 z.1.0 z.1.1
+
+-- what is left of the same lines, printed from the same place and counted from the same counts: where the pen stands, the bytes of
+-- its buffer, and the counts
+pub same_lines : {ls : List Line} {p q r : Pen} {c d e : Counts} → PrintedLines ls p c q d → PrintedLines ls p c r e
+    → (q.at ≡ r.at) × (q.out.now ≡ r.out.now) × (d ≡ e)
+same_lines f g = (
+  f.text.written.end ∙ sym g.text.written.end,
+  f.text.written.now ∙ sym g.text.written.now,
+  same_counts _ _ (f.lines ∙ sym g.lines) (f.faults ∙ sym g.faults) (f.skipped ∙ sym g.skipped),
+)
 
 -- ---- room
-pub room_next : {a : List Line} {t u : Sheet} {out left : List ℕ} (k : ℕ) → Room t (length a + k) → Printed a t out u left → Room u k
-room_next {a} {t} {u} k r p =
+pub room_next : {a : List Line} {p q : Pen} {c d : Counts} (k : ℕ) → Room p c (length a + k) → PrintedLines a p c q d → Room q d k
+room_next {a} k r f =
     record {
-      at = omega (arith, r.at, p.text.end, lines_most a);
-      lines = omega (arith, r.lines, p.lines);
-      faults = omega (arith, r.faults, p.faults, count_most faulty faulty_most a);
-      skipped = omega (arith, r.skipped, p.skipped, count_most skips skips_most a);
+      at = omega (arith, r.at, f.text.written.end, lines_most a);
+      lines = omega (arith, r.lines, f.lines);
+      faults = omega (arith, r.faults, f.faults, count_most faulty faulty_most a);
+      skipped = omega (arith, r.skipped, f.skipped, count_most skips skips_most a);
     }
 
-pub room_less : {t : Sheet} (k n : ℕ) → k ≤ n → Room t n → Room t k
+pub room_less : {p : Pen} {c : Counts} (k n : ℕ) → k ≤ n → Room p c n → Room p c k
 room_less k n h r =
     record { at = omega (arith, r.at); lines = omega (arith, r.lines); faults = omega (arith, r.faults); skipped = omega (arith, r.skipped) }
 
--- a sheet of which nothing is printed but a first line has room for as many lines as a record has bytes
-pub first_room : (at k : ℕ) → at ≤ 2 ^ 16 → k ≤ 65536 → Room (sheet at 0 0 0) k
-first_room at k small few = record { at = omega arith; lines = omega arith; faults = omega arith; skipped = omega arith }
+-- a pen with which nothing is printed but a first line has room for as many lines as a record has bytes
+pub first_room : (p : Pen) (k : ℕ) → p.at ≤ 2 ^ 16 → k ≤ 65536 → Room p (counts 0 0 0) k
+first_room p k small few = record { at = omega arith; lines = omega arith; faults = omega arith; skipped = omega arith }

@@ -1,11 +1,12 @@
--- Lines: their text, how many there are in a state, and what printing them hands back and asks.
+-- Lines: their text, how many there are in a state, and what printing them leaves and asks.
 use Rattle.std.specs.Prelude.{ℕ, ◌+◌, ◌*◌, ◌≤◌, ◌^◌, List, [], ◌∷◌, ◌++◌, ◌≡◌, length}
-use Rattle.writing.specs.Laid.{Written}
+use Rattle.writing.specs.declared.Pen.{Pen}
+use Rattle.writing.specs.Printed.{Printed}
 use Rattle.lines.specs.declared.Line.{Line}
 use Rattle.lines.specs.declared.State.{State}
 use Rattle.lines.specs.declared.State.TheVariants.{Skipped, Guard, Ref, Ok}
 use Rattle.lines.specs.Lines.{line_text}
-use Rattle.sheet.specs.declared.Sheet.{Sheet}
+use Rattle.sheet.specs.declared.Counts.{Counts}
 
 -- how many lines are in a state
 abbrev pub faulty : State → ℕ
@@ -28,18 +29,18 @@ unfoldable pub lines_text : List Line → List ℕ
 lines_text [] = []
 lines_text (l ∷ ls) = line_text l ++ lines_text ls
 
--- ---- what the functions that print lines hand back, and what they ask
+-- ---- what the functions that print lines leave, and what they ask
 
--- the lines ls were printed from t's place on, and counted
-pub record Printed (ls : List Line) (t : Sheet) (out : List ℕ) (u : Sheet) (left : List ℕ) : Type 0 where
-  pub text : Written (lines_text ls) t.at out u.at left
-  pub lines : u.lines ≡ t.lines + length ls
-  pub faults : u.faults ≡ t.faults + count_of faulty ls
-  pub skipped : u.skipped ≡ t.skipped + count_of skips ls
+-- the lines ls were printed with a pen, p before and q after, and counted, from c to d
+pub record PrintedLines (ls : List Line) (p : Pen) (c : Counts) (q : Pen) (d : Counts) : Type 0 where
+  pub text : Printed (lines_text ls) p q
+  pub lines : d.lines ≡ c.lines + length ls
+  pub faults : d.faults ≡ c.faults + count_of faulty ls
+  pub skipped : d.skipped ≡ c.skipped + count_of skips ls
 
--- the sheet's numbers have room for k lines more, of at most 69 bytes each
-pub record Room (t : Sheet) (k : ℕ) : Type 0 where
-  pub at : t.at + k * 69 ≤ 2 ^ 31
-  pub lines : t.lines + k ≤ 2 ^ 31
-  pub faults : t.faults + k ≤ 2 ^ 31
-  pub skipped : t.skipped + k ≤ 2 ^ 31
+-- the pen and the counts have room for k lines more, of at most 69 bytes each
+pub record Room (p : Pen) (c : Counts) (k : ℕ) : Type 0 where
+  pub at : p.at + k * 69 ≤ 2 ^ 31
+  pub lines : c.lines + k ≤ 2 ^ 31
+  pub faults : c.faults + k ≤ 2 ^ 31
+  pub skipped : c.skipped + k ≤ 2 ^ 31

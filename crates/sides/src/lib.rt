@@ -18,7 +18,7 @@ pub enum Side {
 fn checks_as_write(c: Command) -> bool
     ensures { result ≡ checks_as_write c }
 {
-    words::both(command::compares(c), c.code != 0)
+    command::compares(c) && c.code != 0
 }
 
 // Whether an operation checks a side.
@@ -46,8 +46,7 @@ pub fn checked_on(side: Side, d: Description, c: Command) -> u64
     if d.kind == 0 {
         return 0;
     }
-    let o = c.operation;
-    if checks_on(side, o, c) {
+    if checks_on(side, c.operation, c) {
         return c.length;
     }
     0

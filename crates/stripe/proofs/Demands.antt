@@ -19,12 +19,11 @@ use Rattle.words.proofs.Parts.{put_length, drop_bytes}
 use Rattle.words.proofs.Xor.{xors_drop, xors_length, xors_cancel}
 use Rattle.guard.specs.Guard.{guard}
 use Rattle.field.specs.Field.{data_of, field_of, stored_guard}
+use Rattle.answer.specs.Answer.{Answer, good}
 use Rattle.answer.specs.Outcome.{Outcome, outcome}
-use Rattle.answer.specs.declared.Answer.{Answer}
-use Rattle.answer.specs.declared.Answer.TheVariants as answers
 use Rattle.answer.proofs.Outcome.{keeps}
 use Rattle.segment.specs.declared.Description.{Description}
-use Rattle.segment.specs.Segment.{Segment, intervals_of, size_of, stored_of, length_of}
+use Rattle.segment.specs.Segment.{IsSegment, intervals_of, size_of, stored_of, length_of}
 use Rattle.segment.specs.Places.{begin_of}
 use Rattle.segment.proofs.Laws.{stored_intervals}
 use Rattle.segment.proofs.Places.{interval_begins}
@@ -121,30 +120,30 @@ there_and_back old new p eo en =
     let once : length (xors p old) ≡ length new = xors_length p old (sym eo) ∙ sym en in
     ap (λ (l : List ℕ). xors l old) (xors_cancel (xors p old) new once) ∙ xors_cancel p old (sym eo)
 
--- ---- exactly when a call is good, and what it then leaves: `outcome answers.Good l` is the outcome of a call that is good and leaves l
+-- ---- exactly when a call is good, and what it then leaves: `outcome good l` is the outcome of a call that is good and leaves l
 
 -- a good outcome that a definition gives is what the definition leaves
-leaves : (x : Outcome (List ℕ)) (l new : List ℕ) → x ≡ outcome answers.Good new → outcome answers.Good l ≡ x → l ≡ new
+leaves : (x : Outcome (List ℕ)) (l new : List ℕ) → x ≡ outcome good new → outcome good l ≡ x → l ≡ new
 leaves x l new is e = ap (λ (y : Outcome (List ℕ)). y.left) (e ∙ is)
 
-answered : (x : Outcome (List ℕ)) (l : List ℕ) → outcome answers.Good l ≡ x → x.answer ≡ answers.Good
+answered : (x : Outcome (List ℕ)) (l : List ℕ) → outcome good l ≡ x → x.answer ≡ good
 answered x l e = sym (ap (λ (y : Outcome (List ℕ)). y.answer) e)
 
 module _ (d : Description) (k : ℕ) (s out : List ℕ) where
-  pub make_good_exactly : ((made d k s out).answer ≡ answers.Good) ↔ Making d k s out
+  pub make_good_exactly : ((made d k s out).answer ≡ good) ↔ Making d k s out
   make_good_exactly = (make_only d k s out, λ m. ap (λ (y : Outcome (List ℕ)). y.answer) (make_is d k s out m))
 
-  pub make_leaves : (l : List ℕ) → outcome answers.Good l ≡ made d k s out → (l ≡ parity_of (length_of d) k s) × (length l ≡ length_of d)
+  pub make_leaves : (l : List ℕ) → outcome good l ≡ made d k s out → (l ≡ parity_of (length_of d) k s) × (length l ≡ length_of d)
   make_leaves l e =
       let m = make_only d k s out (answered _ l e) in
       let is = leaves _ l _ (make_is d k s out m) e in
       (is, ap length is ∙ parity_of_length (length_of d) k s (omega (arith, m.whole)))
 
 module _ (d : Description) (k lost : ℕ) (s out : List ℕ) where
-  pub rebuild_good_exactly : ((rebuilt d k lost s out).answer ≡ answers.Good) ↔ Rebuilding d k lost s out
+  pub rebuild_good_exactly : ((rebuilt d k lost s out).answer ≡ good) ↔ Rebuilding d k lost s out
   rebuild_good_exactly = (rebuild_only d k lost s out, λ m. ap (λ (y : Outcome (List ℕ)). y.answer) (rebuild_is d k lost s out m))
 
-  pub rebuild_leaves : (l : List ℕ) → outcome answers.Good l ≡ rebuilt d k lost s out → (l ≡ rebuilt_of (length_of d) k lost s) × (length l ≡ length_of d)
+  pub rebuild_leaves : (l : List ℕ) → outcome good l ≡ rebuilt d k lost s out → (l ≡ rebuilt_of (length_of d) k lost s) × (length l ≡ length_of d)
   rebuild_leaves l e =
       let m = rebuild_only d k lost s out (answered _ l e) in
       let is = leaves _ l _ (rebuild_is d k lost s out m) e in
@@ -157,17 +156,17 @@ corrected_length old new parity long o n p =
     xors_length (xors parity old) new (once ∙ sym n) ∙ once
 
 module _ (d : Description) (old new parity : List ℕ) where
-  pub correct_good_exactly : ((corrected d old new parity).answer ≡ answers.Good) ↔ Correcting d old new parity
+  pub correct_good_exactly : ((corrected d old new parity).answer ≡ good) ↔ Correcting d old new parity
   correct_good_exactly = (correct_only d old new parity, λ m. ap (λ (y : Outcome (List ℕ)). y.answer) (correct_is d old new parity m))
 
-  pub correct_leaves : (l : List ℕ) → outcome answers.Good l ≡ corrected d old new parity → (l ≡ corrected_of old new parity) × (length l ≡ length_of d)
+  pub correct_leaves : (l : List ℕ) → outcome good l ≡ corrected d old new parity → (l ≡ corrected_of old new parity) × (length l ≡ length_of d)
   correct_leaves l e =
       let m = correct_only d old new parity (answered _ l e) in
       let is = leaves _ l _ (correct_is d old new parity m) e in
       (is, ap length is ∙ corrected_length old new parity (length_of d) m.old_whole m.new_whole m.room)
 
 -- ---- the places of a segment's intervals
-module _ (d : Description) (segment : Segment d) (typed : 1 ≤ d.kind) (j i : ℕ) where
+module _ (d : Description) (segment : IsSegment d) (typed : 1 ≤ d.kind) (j i : ℕ) where
   -- block j, and in it interval i
   pub begin_in_block : begin_of d j i ≡ j * stored_of d + i * (size_of d + 8)
   unfolding begin_of
@@ -184,12 +183,12 @@ module _ (d : Description) (segment : Segment d) (typed : 1 ≤ d.kind) (j i : �
       omega (arith, begin_in_block, stored, ends (size_of d + 8) i (intervals_of d) l, ends (stored_of d) j d.count h)
 
 -- ---- demand 3 for the calls: a good `make` of k members left `parity`
-module _ (d : Description) (k : ℕ) (s out parity : List ℕ) (good : outcome answers.Good parity ≡ made d k s out) where
+module _ (d : Description) (k : ℕ) (s out parity : List ℕ) (told : outcome good parity ≡ made d k s out) where
   making : Making d k s out
-  making = make_only d k s out (answered _ parity good)
+  making = make_only d k s out (answered _ parity told)
 
   is_parity : parity ≡ parity_of (length_of d) k s
-  is_parity = (make_leaves d k s out parity good).0
+  is_parity = (make_leaves d k s out parity told).0
 
   module _ (bytes : Bytes s) (j i : ℕ) where
     begin : (l : List ℕ) → error_in d j i l ≡ error_at (size_of d) (drop (begin_of d j i) l)
@@ -215,12 +214,12 @@ module _ (d : Description) (k : ℕ) (s out parity : List ℕ) (good : outcome a
   -- lost part, byte for byte
   pub lost_comes_back : (lost : ℕ) (parts room : List ℕ) → lost ≤ k → length parts ≡ (k + 1) * length_of d → length room ≡ length_of d
       → ((j : ℕ) → j ≤ k → (j ≡ lost → ⊥) → part (length_of d) j parts ≡ part (length_of d) j (s ++ parity))
-      → rebuilt d k lost parts room ≡ outcome answers.Good (part (length_of d) lost (s ++ parity))
+      → rebuilt d k lost parts room ≡ outcome good (part (length_of d) lost (s ++ parity))
   lost_comes_back lost parts room among whole fits agree =
       let m = making in
       rebuild_is d k lost parts room
       (record { segment = m.segment; typed = m.typed; some = m.some; few = m.few; among = among; whole = whole; room = fits })
-      ∙ ap (outcome answers.Good)
+      ∙ ap (outcome good)
       (lost_not_used (length_of d) k lost parts (s ++ parity) among agree
       ∙ lost_and_rebuilt (length_of d) k lost s (s ++ parity) m.whole among (ap (λ (l : List ℕ). s ++ l) is_parity))
 
@@ -238,8 +237,8 @@ module _ (d : Description) (k : ℕ) (s out parity : List ℕ) (good : outcome a
       let f = making in
       let old_whole : length old ≡ length_of d = ap length is ∙ part_length (length_of d) m k s among f.whole in
       correct_is d old new parity
-      (record { segment = f.segment; typed = f.typed; old_whole = old_whole; new_whole = size; room = (make_leaves d k s out parity good).1 })
-      ∙ ap (outcome answers.Good)
+      (record { segment = f.segment; typed = f.typed; old_whole = old_whole; new_whole = size; room = (make_leaves d k s out parity told).1 })
+      ∙ ap (outcome good)
       (ap (corrected_of old new) is_parity ∙ corrected_is_fresh (length_of d) k m s old new f.whole among is size)
       ∙ sym
       (make_is d k (put (m * length_of d) new s) room
@@ -249,14 +248,14 @@ module _ (d : Description) (k : ℕ) (s out parity : List ℕ) (good : outcome a
       put_whole = put_length (m * length_of d) new s (rw (size, making.whole) (ends (length_of d) m k among)) ∙ making.whole
 
 -- ---- "Any answer but 0 changes no lent byte"
-pub make_keeps : (d : Description) (k : ℕ) (s out : List ℕ) (a : Answer) (l : List ℕ) → outcome a l ≡ made d k s out → (a ≡ answers.Good → ⊥) → l ≡ out
+pub make_keeps : (d : Description) (k : ℕ) (s out : List ℕ) (a : Answer) (l : List ℕ) → outcome a l ≡ made d k s out → (a ≡ good → ⊥) → l ≡ out
 unfolding made
 make_keeps d k s out a l = keeps _ out _
 
-pub rebuild_keeps : (d : Description) (k lost : ℕ) (s out : List ℕ) (a : Answer) (l : List ℕ) → outcome a l ≡ rebuilt d k lost s out → (a ≡ answers.Good → ⊥) → l ≡ out
+pub rebuild_keeps : (d : Description) (k lost : ℕ) (s out : List ℕ) (a : Answer) (l : List ℕ) → outcome a l ≡ rebuilt d k lost s out → (a ≡ good → ⊥) → l ≡ out
 unfolding rebuilt
 rebuild_keeps d k lost s out a l = keeps _ out _
 
-pub correct_keeps : (d : Description) (old new parity : List ℕ) (a : Answer) (l : List ℕ) → outcome a l ≡ corrected d old new parity → (a ≡ answers.Good → ⊥) → l ≡ parity
+pub correct_keeps : (d : Description) (old new parity : List ℕ) (a : Answer) (l : List ℕ) → outcome a l ≡ corrected d old new parity → (a ≡ good → ⊥) → l ≡ parity
 unfolding corrected
 correct_keeps d old new parity a l = keeps _ parity _

@@ -1,9 +1,8 @@
 -- "k is 1 to 16 members, laid end to end, each N × S bytes of one description of type 1 to 3. Parity is their exclusive or,
 -- fields included."
 use Rattle.std.specs.Prelude.{ℕ, ◌+◌, ◌*◌, Bool, not, ◌&&◌, List, eqb, leb, length}
-use Rattle.answer.specs.Answer.{or_else, refused_if}
+use Rattle.answer.specs.Answer.{Answer, or_else, refused_if}
 use Rattle.answer.specs.Outcome.{Outcome, leaving}
-use Rattle.answer.specs.declared.Answer.{Answer}
 use Rattle.answer.specs.declared.Reason.TheVariants as reasons
 use Rattle.segment.specs.declared.Description.{Description}
 use Rattle.segment.specs.Segment.{length_of}

@@ -2,31 +2,34 @@
 #![tactic(auto)]
 
 ghost use Rattle.std.specs.Prelude.{◌∷◌, [], ◌++◌, ◌+◌, ◌≤◌, ◌<◌, ◌^◌, length};
-ghost use Rattle.writing.specs.Laid.{Written};
+ghost use Rattle.writing.specs.Printed.{Printed};
 ghost use Rattle.digits.specs.Digits.{hexadecimal, decimal};
 
+use writing::Pen;
+
 // A number, and one byte behind it.
-pub fn decimal_then(out: &mut [u8], at: usize, n: u64, b: u8) -> usize
-    requires { at + 21 ≤ 2 ^ 32 }
-    ensures { Written (decimal n ++ (b ∷ [])) at out.old result out.new }
+// Kept: this and the next are two lines each, and one function that takes the number's printing as a closure is no shorter.
+pub fn decimal_then(pen: &mut Pen, n: u64, b: u8)
+    requires { pen.old.at + 21 ≤ 2 ^ 32 }
+    ensures { Printed (decimal n ++ (b ∷ [])) pen.old pen.new }
 {
-    let end = digits::decimal(out, at, n);
-    writing::put(out, end, b)
+    digits::decimal(pen, n);
+    pen.put(b);
 }
 
-pub fn hexadecimal_then(out: &mut [u8], at: usize, k: usize, n: u64, b: u8) -> usize
-    requires { at + k < 2 ^ 32 }
-    ensures { Written (hexadecimal k n ++ (b ∷ [])) at out.old result out.new }
+pub fn hexadecimal_then(pen: &mut Pen, k: usize, n: u64, b: u8)
+    requires { pen.old.at + k < 2 ^ 32 }
+    ensures { Printed (hexadecimal k n ++ (b ∷ [])) pen.old pen.new }
 {
-    let end = digits::hexadecimal(out, at, k, n);
-    writing::put(out, end, b)
+    digits::hexadecimal(pen, k, n);
+    pen.put(b);
 }
 
 // A word, a number behind it, and one byte behind that.
-pub fn labelled(out: &mut [u8], at: usize, word: &[u8], n: u64, b: u8) -> usize
-    requires { at + length word.now + 21 ≤ 2 ^ 32 }
-    ensures { Written (word.now ++ (decimal n ++ (b ∷ []))) at out.old result out.new }
+pub fn labelled(pen: &mut Pen, word: &[u8], n: u64, b: u8)
+    requires { pen.old.at + length word.now + 21 ≤ 2 ^ 32 }
+    ensures { Printed (word.now ++ (decimal n ++ (b ∷ []))) pen.old pen.new }
 {
-    let end = writing::put_word(out, at, word);
-    decimal_then(out, end, n, b)
+    pen.word(word);
+    decimal_then(pen, n, b);
 }

@@ -9,10 +9,10 @@ use borrow.Author.Tests.{eq-eqb, eqb-true}
 use lib.Dec.{eqb}
 use lib.ListN.{length}
 use Rattle.words.proofs.Choice.{never}
-use Rattle.answer.specs.declared.Answer.{Answer}
-use Rattle.answer.specs.declared.Answer.TheVariants as answers
+use Rattle.answer.specs.Answer as answers
+use Rattle.answer.specs.Answer.{Answer}
 use Rattle.segment.specs.declared.Description.{Description}
-use Rattle.segment.specs.Segment.{Segment, intervals_of, size_of, stored_of}
+use Rattle.segment.specs.Segment.{IsSegment, intervals_of, size_of, stored_of}
 use Rattle.segment.specs.Places.{span_of}
 use Rattle.segment.proofs.Laws.{sizes, stored_plain, stored_intervals}
 use Rattle.segment.proofs.Places.{span_flat}
@@ -49,7 +49,7 @@ module _ (d : Description) (c : Command) where
       by true k false e = refl
       by false k false e = refl
 
-  each_parted : Segment d → whole d c ≡ false → intervals_of d * size_of d ≡ each_of d c
+  each_parted : IsSegment d → whole d c ≡ false → intervals_of d * size_of d ≡ each_of d c
   each_parted s e = (sizes d s).whole ∙ rw (eq-eqb c.code 0 (parted d c e).zero) refl
 
   record Fits (k : Cut) : Type 0 where
@@ -58,7 +58,7 @@ module _ (d : Description) (c : Command) where
     small : k.pieces * k.stride ≤ 4160
     parts : (s : List ℕ) → length s ≡ span_of d c.length → parts_of k (c.length * k.pieces) s ≡ handed d c s
 
-  fits : Segment d → Fits (cut_of d c)
+  fits : IsSegment d → Fits (cut_of d c)
   unfolding span_of moved_of parts_of user_data data_of
   fits s = by (whole d c) refl
     where
@@ -102,6 +102,6 @@ module _ (d : Description) (c : Command) where
         let f = fits h.described in
         q ∙ rw (e, on) (ap₂ (λ (n : ℕ) (x : List ℕ). compare_blocks n c.length c.address x sent) f.each (f.parts stored (long ∙ (pair on).1)))
 
-  pub compared_none : (sent stored : List ℕ) → compares c ≡ false → compared d c sent stored ≡ answers.Good
+  pub compared_none : (sent stored : List ℕ) → compares c ≡ false → compared d c sent stored ≡ answers.good
   unfolding compared
   compared_none sent stored e = rw e

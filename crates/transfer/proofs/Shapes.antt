@@ -10,9 +10,9 @@ use lib.Dec.{eqb, lit≤}
 use lib.ListN.{length}
 use Rattle.words.proofs.Choice.{never}
 use Rattle.words.specs.Parts.{put}
-use Rattle.answer.specs.declared.Answer.TheVariants as answers
+use Rattle.answer.specs.Answer as answers
 use Rattle.segment.specs.declared.Description.{Description}
-use Rattle.segment.specs.Segment.{Segment, intervals_of, size_of, stored_of}
+use Rattle.segment.specs.Segment.{IsSegment, intervals_of, size_of, stored_of}
 use Rattle.segment.specs.Places.{span_of}
 use Rattle.segment.proofs.Laws.{sizes, stored_plain}
 use Rattle.segment.proofs.Places.{span_intervals, span_flat}
@@ -48,7 +48,7 @@ pub record Parted (d : Description) (c : Command) : Type 0 where
   pub zero : c.code ≡ 0
 
 -- ---- a transfer's blocks and its buffer
-module _ (d : Description) (c : Command) (s : Segment d) where
+module _ (d : Description) (c : Command) (s : IsSegment d) where
   pub moved_intervals : c.code ≡ 0 → c.length * (intervals_of d * size_of d) ≡ moved_of d c
   moved_intervals z = ap (λ (x : ℕ). c.length * x) (sizes d s).whole ∙ sym (moved_plain d c z)
 
@@ -65,7 +65,7 @@ module _ (d : Description) (c : Command) (s : Segment d) where
 
 -- ---- judging
 module _ (side : Side) (d : Description) (c : Command) (s : List ℕ) where
-  pub judged_none : checked_on side d c ≡ 0 → judged_on side d c s ≡ answers.Good
+  pub judged_none : checked_on side d c ≡ 0 → judged_on side d c s ≡ answers.good
   unfolding judged_on judge_blocks first_of
   judged_none e = rw e
 
@@ -80,7 +80,7 @@ module _ (side : Side) (d : Description) (c : Command) (s : List ℕ) where
 
 -- ---- what the test of `whole` tells
 module _ (d : Description) (c : Command) where
-  pub moved_when_whole : Segment d → (d.kind ≡ 0 → c.code ≡ 0) → whole d c ≡ true → moved_of d c ≡ span_of d c.length
+  pub moved_when_whole : IsSegment d → (d.kind ≡ 0 → c.code ≡ 0) → whole d c ≡ true → moved_of d c ≡ span_of d c.length
   unfolding whole
   moved_when_whole s p e = by (eqb d.kind 0) refl (eqb c.code 0) refl e
     where

@@ -1,7 +1,7 @@
 -- What judging, comparing and moving ask of their callers: inner matter, which the contract of `execute::execute` does not name.
 use Rattle.std.specs.Prelude.{ℕ, ◌+◌, ◌^◌, ◌≤◌, true, cond, ◌≡◌}
 use Rattle.segment.specs.declared.Description.{Description}
-use Rattle.segment.specs.Segment.{Segment, intervals_of, size_of, stored_of}
+use Rattle.segment.specs.Segment.{IsSegment, intervals_of, size_of, stored_of}
 use Rattle.segment.specs.Places.{span_of}
 use Rattle.command.specs.declared.Command.{Command}
 use Rattle.command.specs.Compares.{compares}
@@ -13,7 +13,7 @@ use Rattle.transfer.specs.Transfer.{whole}
 
 -- the transfer is one of a segment
 pub record Shaped (d : Description) (c : Command) : Type 0 where
-  pub described : Segment d
+  pub described : IsSegment d
   pub few : c.length ≤ 65536
   pub end : c.address + c.length ≤ 2 ^ 63
 

@@ -1,8 +1,7 @@
 -- What a transfer works on and leaves: its blocks, how they are judged and compared, what a READ hands out and a WRITE stores.
 use Rattle.std.specs.Prelude.{ℕ, ◌*◌, Bool, not, ◌||◌, cond, List, eqb}
-use Rattle.answer.specs.Answer.{or_else}
-use Rattle.answer.specs.declared.Answer.{Answer}
-use Rattle.answer.specs.declared.Answer.TheVariants as answers
+use Rattle.answer.specs.Answer.{or_else, Answer}
+use Rattle.answer.specs.Answer as answers
 use Rattle.segment.specs.declared.Description.{Description}
 use Rattle.segment.specs.Segment.{intervals_of, size_of}
 use Rattle.segment.specs.Places.{blocks_from}
@@ -48,7 +47,7 @@ received d c buffer = cond (whole d c) buffer (stored_blocks (size_of d) (interv
 -- type 0 only the data is compared.": block by block, what a READ of that code would hand out against what is sent
 unfoldable pub compared : Description → Command → List ℕ → List ℕ → Answer
 compared d c sent stored =
-    cond (compares c) (compare_blocks (each_of d c) c.length c.address (handed d c stored) sent) answers.Good
+    cond (compares c) (compare_blocks (each_of d c) c.length c.address (handed d c stored) sent) answers.good
 
 -- the verdict: "15 .., after every interval check"
 unfoldable pub verdict : Description → Command → List ℕ → List ℕ → Answer

@@ -3,8 +3,6 @@
 
 ghost use Rattle.std.specs.Prelude.{◌≡◌, ◌+◌, ◌≤◌, length};
 ghost use Rattle.words.specs.Parts.{put};
-ghost use Rattle.guard.specs.Table.{Right};
-ghost use Rattle.segment.specs.Segment.{Segment};
 ghost use Rattle.segment.specs.Places.{span_of};
 ghost use Rattle.transfer.specs.Transfer.{whole, judged_on, judged, compared, verdict, handed, received};
 ghost use Rattle.transfer.specs.Inner.{Shaped, Sided, Fitted, cut_of, Paired};
@@ -12,134 +10,120 @@ ghost use Rattle.transfer.specs.Inner.{Shaped, Sided, Fitted, cut_of, Paired};
 use answer::Answer;
 use command::Command;
 use comparison::Cut;
-use segment::Description;
+use guard::Table;
+use segment::Segment;
 use sides::Side;
 
-// Whether blocks are moved whole: with their fields, or of type 0, which has no fields.
-fn whole(d: Description, c: Command) -> bool
-    ensures { result ≡ whole d c }
-{
-    words::either(d.kind == 0, c.code != 0)
+// A command, and the segment that its blocks are of.
+#[derive(Clone, Copy)]
+pub struct Transfer {
+    pub segment: Segment,
+    pub command: Command,
+    pub ghost shaped: { Shaped segment.numbers command },
 }
 
-// The first wrong interval of the blocks `s` of one side.
-fn judge_on(t: &[u16; 256], side: Side, d: Description, c: Command, s: &[u8]) -> Answer
-    requires right { Right t.now }
-    requires shaped { Shaped d c }
-    requires sided { Sided side d c (length s.now) }
-    ensures { result ≡ judged_on side d c s.now }
-{
-    let count = sides::checked_on(side, d, c);
-    if count == 0 {
-        return Answer::Good;
+impl Transfer {
+    // Whether blocks are moved whole: with their fields, or of type 0, which has no fields.
+    fn whole(self) -> bool
+        ensures { result ≡ whole self.segment.numbers self.command }
+    {
+        self.segment.numbers.kind == 0 || self.command.code != 0
     }
-    let rules = rules::rules(side, d, c);
-    let start = rules::start(d, c);
-    judge::judge_blocks(t, rules, start, count as usize, s)
-}
 
-// The first wrong interval of what is sent, else of what is stored.
-pub fn judge(t: &[u16; 256], d: Description, c: Command, sent: &[u8], stored: &[u8]) -> Answer
-    requires right { Right t.now }
-    requires shaped { Shaped d c }
-    requires sided { (Sided Side.Sent d c (length sent.now)) × (Sided Side.Stored d c (length stored.now)) }
-    ensures { result ≡ judged d c sent.now stored.now }
-{
-    let a = judge_on(t, Side::Sent, d, c, sent);
-    if !answer::is_good(a) {
-        return a;
+    // The first wrong interval of the blocks `s` of one side.
+    fn judge_on(self, t: &Table, side: Side, s: &[u8]) -> Answer
+        requires { Sided side self.segment.numbers self.command (length s.now) }
+        ensures { result ≡ judged_on side self.segment.numbers self.command s.now }
+    {
+        let count = sides::checked_on(side, self.segment.numbers, self.command);
+        if count == 0 {
+            return Ok(());
+        }
+        let rules = rules::rules(side, self.segment, self.command);
+        let start = rules::start(self.segment.numbers, self.command);
+        judge::judge_blocks(t, rules, start, count as usize, s)
     }
-    judge_on(t, Side::Stored, d, c, stored)
-}
 
-// What of a stored block is compared: all of it, or of each interval the data.
-fn cut(d: Description, c: Command) -> Cut
-    requires { Segment d }
-    ensures { result ≡ cut_of d c }
-{
-    if whole(d, c) {
-        let stored = segment::stored(d);
-        return Cut {
-            pieces: 1,
-            size: stored,
-            stride: stored,
-        };
+    // The first wrong interval of what is sent, else of what is stored.
+    pub fn judge(self, t: &Table, sent: &[u8], stored: &[u8]) -> Answer
+        requires { (Sided Side.Sent self.segment.numbers self.command (length sent.now)) × (Sided Side.Stored self.segment.numbers self.command (length stored.now)) }
+        ensures { result ≡ judged self.segment.numbers self.command sent.now stored.now }
+    {
+        self.judge_on(t, Side::Sent, sent)?;
+        self.judge_on(t, Side::Stored, stored)
     }
-    let size = segment::size(d);
-    let stride = size + 8;
-    Cut {
-        pieces: segment::intervals(d),
-        size,
-        stride,
-    }
-}
 
-// The first of the transfer's blocks that is not the one sent; good for a command that does not compare.
-fn compare(d: Description, c: Command, sent: &[u8], stored: &[u8]) -> Answer
-    requires shaped { Shaped d c }
-    requires paired { Paired d c (length sent.now) (length stored.now) }
-    ensures { result ≡ compared d c sent.now stored.now }
-{
-    if !command::compares(c) {
-        return Answer::Good;
+    // What of a stored block is compared: all of it, or of each interval the data.
+    fn cut(self) -> Cut
+        ensures { result ≡ cut_of self.segment.numbers self.command }
+    {
+        if self.whole() {
+            let stored = self.segment.stored();
+            return Cut {
+                pieces: 1,
+                size: stored,
+                stride: stored,
+            };
+        }
+        let size = self.segment.size();
+        Cut {
+            pieces: self.segment.intervals(),
+            size,
+            stride: size + 8,
+        }
     }
-    comparison::compare_blocks(cut(d, c), c.address, c.length as usize, stored, sent)
-}
 
-// The verdict on a transfer: all of its intervals are judged, and only then its blocks compared.
-pub fn verdict(t: &[u16; 256], d: Description, c: Command, sent: &[u8], stored: &[u8]) -> Answer
-    requires right { Right t.now }
-    requires shaped { Shaped d c }
-    requires sided { (Sided Side.Sent d c (length sent.now)) × (Sided Side.Stored d c (length stored.now)) }
-    requires paired { Paired d c (length sent.now) (length stored.now) }
-    ensures { result ≡ verdict d c sent.now stored.now }
-{
-    let a = judge(t, d, c, sent, stored);
-    if !answer::is_good(a) {
-        return a;
+    // The first of the transfer's blocks that is not the one sent; good for a command that does not compare.
+    fn compare(self, sent: &[u8], stored: &[u8]) -> Answer
+        requires { Paired self.segment.numbers self.command (length sent.now) (length stored.now) }
+        ensures { result ≡ compared self.segment.numbers self.command sent.now stored.now }
+    {
+        let c = self.command;
+        if !command::compares(c) {
+            return Ok(());
+        }
+        comparison::compare_blocks(self.cut(), c.address, c.length as usize, stored, sent)
     }
-    compare(d, c, sent, stored)
-}
 
-// Fills the buffer with the transfer's blocks, or their user data.
-pub fn hand_out(d: Description, c: Command, s: &[u8], buffer: &mut [u8])
-    requires shaped { Shaped d c }
-    requires s_len { length s.now ≡ span_of d c.length }
-    requires fitted { Fitted d c (length buffer.old) }
-    ensures { buffer.new ≡ handed d c s.now }
-{
-    if whole(d, c) {
-        words::copy(buffer, s);
-        return;
+    // The verdict on a transfer: all of its intervals are judged, and only then its blocks compared.
+    pub fn verdict(self, t: &Table, sent: &[u8], stored: &[u8]) -> Answer
+        requires sided { (Sided Side.Sent self.segment.numbers self.command (length sent.now)) × (Sided Side.Stored self.segment.numbers self.command (length stored.now)) }
+        requires paired { Paired self.segment.numbers self.command (length sent.now) (length stored.now) }
+        ensures { result ≡ verdict self.segment.numbers self.command sent.now stored.now }
+    {
+        self.judge(t, sent, stored)?;
+        self.compare(sent, stored)
     }
-    let size = segment::size(d);
-    let count = c.length as usize * segment::intervals(d);
-    blocks::take_user_data(buffer, s, size, count);
-}
 
-// Overwrites the transfer's blocks of the segment, from `at` on, with what was received.
-pub fn store(
-    t: &[u16; 256],
-    d: Description,
-    c: Command,
-    segment: &mut [u8],
-    at: usize,
-    buffer: &[u8],
-)
-    requires right { Right t.now }
-    requires shaped { Shaped d c }
-    requires length_in_bounds { at + span_of d c.length ≤ length segment.old }
-    requires fitted { Fitted d c (length buffer.now) }
-    ensures { segment.new ≡ put at (received d c buffer.now) segment.old }
-{
-    let count = c.length as usize;
-    if whole(d, c) {
-        let stored = segment::stored(d);
-        blocks::store_blocks(segment, at, buffer, stored, count);
-        return;
+    // Fills the buffer with the transfer's blocks, or their user data.
+    pub fn hand_out(self, s: &[u8], buffer: &mut [u8])
+        requires s_len { length s.now ≡ span_of self.segment.numbers self.command.length }
+        requires fitted { Fitted self.segment.numbers self.command (length buffer.old) }
+        ensures { buffer.new ≡ handed self.segment.numbers self.command s.now }
+    {
+        if self.whole() {
+            words::copy(buffer, s);
+            return;
+        }
+        let size = self.segment.size();
+        let count = self.command.length as usize * self.segment.intervals();
+        blocks::take_user_data(buffer, s, size, count);
     }
-    let size = segment::size(d);
-    let intervals = segment::intervals(d);
-    let marks = marks::marks(d, c);
-    insertion::insert_blocks(t, segment, at, buffer, size, intervals, count, marks);
+
+    // Overwrites the transfer's blocks of the segment, from `at` on, with what was received.
+    pub fn store(self, t: &Table, segment: &mut [u8], at: usize, buffer: &[u8])
+        requires length_in_bounds { at + span_of self.segment.numbers self.command.length ≤ length segment.old }
+        requires fitted { Fitted self.segment.numbers self.command (length buffer.now) }
+        ensures { segment.new ≡ put at (received self.segment.numbers self.command buffer.now) segment.old }
+    {
+        let count = self.command.length as usize;
+        if self.whole() {
+            blocks::store_blocks(segment, at, buffer, self.segment.stored(), count);
+            return;
+        }
+        let size = self.segment.size();
+        let intervals = self.segment.intervals();
+        let marks = marks::marks(self.segment, self.command);
+        insertion::insert_blocks(t, segment, at, buffer, size, intervals, count, marks);
+    }
 }

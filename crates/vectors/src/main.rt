@@ -1,4 +1,5 @@
 // Runs the guards and the parity of document 01, 'Both sides of the line', and prints what comes of each.
+// Kept: printed through `io`, for the reason that stands in `shown`.
 #![tactic(auto)]
 
 fn main() {

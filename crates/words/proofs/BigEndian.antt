@@ -11,6 +11,7 @@ use lib.Bits.{bit_xor, xor_block}
 use lib.Dec.{lit<}
 use lib.ListN.{length, get_or, take, drop, set, length-append, length-set, length-take, length-drop, drop_of_length-le}
 use lib.Seq.{drop-set-lt, get_or-set_same, drop-cons, take_at, drop_at}
+use Rattle.std.specs.Int.{from_be_bytes, w16, w32}
 use Rattle.words.specs.BigEndian.{number_from, number, number_at, bytes}
 use borrow.Rule.Slice.PartMut.{mid_of, put_mid}
 use Rattle.words.specs.Parts.{Bytes, put}
@@ -156,10 +157,20 @@ pub read_at : (at w r : ℕ) (s : List ℕ) → r ≡ number (take (at + w - at)
 unfolding number_at
 read_at at w r s e = e ∙ ap number (part_at at w s)
 
-pub read_at_lt : (at w r : ℕ) (s : List ℕ) → at + w ≤ length s → Bytes s → r ≡ number (take (at + w - at) (drop at s)) → r < 256 ^ w
-read_at_lt at w r s h p e =
-    rw e
-    (rw (part_length at w s h) at (number_lt (take (at + w - at) (drop at s)) (part_bytes at (at + w - at) s p)))
+-- the numbers that std reads from two and from four bytes
+pub two_there : (at : ℕ) (s : List ℕ) → at + 2 ≤ length s → number_at at 2 s ≡ from_be_bytes w16 (get_or s at 0 ∷ get_or s (at + 1) 0 ∷ [])
+unfolding number_at number number_from
+two_there at s h =
+    rw (drop_next s at 0 (omega arith), drop_next s (at + 1) 0 (omega arith)) (omega arith)
+
+pub four_there : (at : ℕ) (s : List ℕ) → at + 4 ≤ length s
+    → number_at at 4 s ≡ from_be_bytes w32 (get_or s at 0 ∷ get_or s (at + 1) 0 ∷ get_or s (at + 2) 0 ∷ get_or s (at + 3) 0 ∷ [])
+unfolding number_at number number_from
+four_there at s h =
+    let third : at + 1 + 1 ≡ at + 2 = omega arith in
+    let fourth : at + 2 + 1 ≡ at + 3 = omega arith in
+    rw (drop_next s at 0 (omega arith), drop_next s (at + 1) 0 (omega arith), third, drop_next s (at + 2) 0 (omega arith), fourth, drop_next s (at + 3) 0 (omega arith))
+    (omega arith)
 
 pub put_part : (at w n : ℕ) (d new : List ℕ) → at + w ≤ length d → new ≡ bytes (length (mid_of at (at + w - at) d)) n → put_mid at (at + w - at) d new ≡ put at (bytes w n) d
 put_part at w n d new h e =

@@ -10,8 +10,6 @@ use Rattle.words.proofs.write2.Reads as write2-reads
 use Rattle.words.proofs.copy.Reads as copy-reads
 use Rattle.words.proofs.xor_into.Reads as xor-into-reads
 use Rattle.words.proofs.fill_with.Reads as fill-with-reads
-use Rattle.words.proofs.both.Reads as both-reads
-use Rattle.words.proofs.either.Reads as either-reads
 
 pub read_at : (κs : _) (a : _) (x y : _) (s t : _) → read-at-reads.Post κs a x s → read-at-reads.Post κs a y t → x ≡ y
 read_at κs a x y s t p q = p ∙ sym q
@@ -36,9 +34,3 @@ xor_into κs a x y s t p q = p ∙ sym q
 
 pub fill_with : (κs : _) (a : _) (x y : _) (s t : _) → fill-with-reads.Post κs a x s → fill-with-reads.Post κs a y t → s.0.now ≡ t.0.now
 fill_with κs a x y s t p q = p ∙ sym q
-
-pub both : (κs : _) (a : _) (x y : _) (s t : _) → both-reads.Post κs a x s → both-reads.Post κs a y t → x ≡ y
-both κs a x y s t p q = p ∙ sym q
-
-pub either : (κs : _) (a : _) (x y : _) (s t : _) → either-reads.Post κs a x s → either-reads.Post κs a y t → x ≡ y
-either κs a x y s t p q = p ∙ sym q

@@ -2,6 +2,7 @@ pub mod BitXor
 pub mod Xor
 pub mod BigEndian
 pub mod Parts
+pub mod Counted
 pub mod Every
 pub mod Turns
 pub mod Runs

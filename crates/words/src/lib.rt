@@ -1,7 +1,7 @@
-// Numbers in bytes, exclusive or, copying and filling, two tests joined: what knows nothing of disks.
+// Numbers in bytes, exclusive or, copying and filling: what knows nothing of disks.
 #![tactic(auto)]
 
-ghost use Rattle.std.specs.Prelude.{◌≡◌, ◌&&◌, ◌||◌, ◌+◌, ◌≤◌, length, replicate};
+ghost use Rattle.std.specs.Prelude.{◌≡◌, ◌+◌, ◌≤◌, length, replicate};
 ghost use Rattle.words.specs.BigEndian.{number, number_at, bytes};
 ghost use Rattle.words.specs.Parts.{put};
 ghost use Rattle.words.specs.Xor.{xors};
@@ -12,10 +12,8 @@ fn read(s: &[u8]) -> u64
     ensures { result ≡ number s.now }
 {
     let mut n: u64 = 0;
-    let mut i: usize = 0;
-    while i < s.len() {
-        n = n * 256 + s[i] as u64;
-        i += 1;
+    for b in s {
+        n = n * 256 + *b as u64;
     }
     n
 }
@@ -25,25 +23,23 @@ pub fn read_at(s: &[u8], at: usize, width: usize) -> u64
     requires { (width ≤ 8) × (at + width ≤ length s.now) }
     ensures { result ≡ number_at at width s.now }
 {
-    let end = at + width;
-    read(&s[at..end])
+    read(&s[at..at + width])
 }
 
 // The number in the two or four bytes of `s` from `at` on.
+// Kept: one function for each type. A trait over the two, with its width and value, would be longer than both.
 pub fn read2(s: &[u8], at: usize) -> u16
     requires { at + 2 ≤ length s.now }
     ensures { result ≡ number_at at 2 s.now }
 {
-    let end = at + 2;
-    read(&s[at..end]) as u16
+    u16::from_be_bytes([s[at], s[at + 1]])
 }
 
 pub fn read4(s: &[u8], at: usize) -> u32
     requires { at + 4 ≤ length s.now }
     ensures { result ≡ number_at at 4 s.now }
 {
-    let end = at + 4;
-    read(&s[at..end]) as u32
+    u32::from_be_bytes([s[at], s[at + 1], s[at + 2], s[at + 3]])
 }
 
 // Fills `d` with the low bytes of `n`, as many as it has.
@@ -51,9 +47,7 @@ pub fn write(d: &mut [u8], n: u64)
     ensures { d.new ≡ bytes (length d.old) n }
 {
     let mut rest = n;
-    let mut i = d.len();
-    while 0 < i {
-        i -= 1;
+    for i in (0..d.len()).rev() {
         d[i] = (rest % 256) as u8;
         rest = rest / 256;
     }
@@ -64,8 +58,7 @@ pub fn write2(d: &mut [u8], at: usize, n: u16)
     requires { at + 2 ≤ length d.old }
     ensures { d.new ≡ put at (bytes 2 n) d.old }
 {
-    let end = at + 2;
-    write(&mut d[at..end], n as u64);
+    write(&mut d[at..at + 2], n as u64);
 }
 
 // Makes `d` a copy of `s`, which is as long.
@@ -73,11 +66,7 @@ pub fn copy(d: &mut [u8], s: &[u8])
     requires { length s.now ≡ length d.old }
     ensures { d.new ≡ s.now }
 {
-    let mut i: usize = 0;
-    while i < s.len() {
-        d[i] = s[i];
-        i += 1;
-    }
+    d.copy_from_slice(s);
 }
 
 // Makes `d` the exclusive or of itself and `s`, which is as long.
@@ -85,10 +74,8 @@ pub fn xor_into(d: &mut [u8], s: &[u8])
     requires { length s.now ≡ length d.old }
     ensures { d.new ≡ xors d.old s.now }
 {
-    let mut i: usize = 0;
-    while i < s.len() {
-        d[i] = d[i] ^ s[i];
-        i += 1;
+    for (i, &b) in s.iter().enumerate() {
+        d[i] ^= b;
     }
 }
 
@@ -96,29 +83,5 @@ pub fn xor_into(d: &mut [u8], s: &[u8])
 pub fn fill_with(d: &mut [u8], b: u8)
     ensures { d.new ≡ replicate (length d.old) b }
 {
-    let mut i: usize = 0;
-    while i < d.len() {
-        d[i] = b;
-        i += 1;
-    }
-}
-
-// Whether both hold.
-pub fn both(a: bool, b: bool) -> bool
-    ensures { result ≡ (a && b) }
-{
-    if a {
-        return b;
-    }
-    false
-}
-
-// Whether either holds.
-pub fn either(a: bool, b: bool) -> bool
-    ensures { result ≡ (a || b) }
-{
-    if a {
-        return true;
-    }
-    b
+    d.fill(b);
 }

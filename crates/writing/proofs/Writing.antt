@@ -7,7 +7,9 @@ use native.Mathlib.Nat.{add-zero, zero-add, suc-add, add-suc}
 use native.Mathlib.Omega.{arith}
 use lib.ListN.{length, set, length-append, length-take, length-drop}
 use lib.Seq.{take-length, set_out}
+use Rattle.writing.specs.declared.Pen.{Pen}
 use Rattle.writing.specs.Laid.{laid, Written}
+use Rattle.writing.specs.Printed.{Printed}
 
 -- `laid`, element by element
 none : (out : List ℕ) → laid 0 [] out ≡ out
@@ -75,3 +77,20 @@ written_length {a} {at} {r} {out} p = ap length p.now ∙ laid_length at a out
 -- the same text, put in another way
 pub written_as : {a b : List ℕ} {at r : ℕ} {out left : List ℕ} → a ≡ b → Written a at out r left → Written b at out r left
 written_as e w = rw e at w
+
+-- ---- what printing leaves of a pen
+pub printed_none : (p : Pen) → Printed [] p p
+printed_none p = record { same_buffer = refl; written = written_none p.at p.out.now }
+
+-- one text after another
+pub printed_then : {a b : List ℕ} {p q r : Pen} → Printed a p q → Printed b q r → Printed (a ++ b) p r
+printed_then f g = record { same_buffer = g.same_buffer ∙ f.same_buffer; written = written_then f.written g.written }
+
+-- the same text, put in another way
+pub printed_as : {a b : List ℕ} {p q : Pen} → a ≡ b → Printed a p q → Printed b p q
+printed_as e f = rw e at f
+
+-- what is left of a buffer, of a pen made over it
+pub printed_over : {text out left : List ℕ} {r : ℕ} {p q : Pen} → r ≡ q.at → left ≡ q.out.now → p.at ≡ 0 → p.out.now ≡ out → Printed text p q
+    → Written text 0 out r left
+printed_over r l a o f = rw (r, l, ← a, ← o) f.written

@@ -2,18 +2,23 @@
 use native.Mathlib.Omega.{arith}
 use Rattle.text.proofs.Ends.{labelled_end}
 use Rattle.closing.specs.Closing.{intervals_text, faults_text, skipped_text}
-use Rattle.closing.proofs.ClosingLaws.{numbers_written}
+use Rattle.closing.proofs.ClosingLaws.{numbers_printed}
 use Rattle.closing.proofs.print_total.Goals as goal
 
-pub labelled-b-requires : goal.labelled-b-requires
+pub labelled-requires-2 : goal.labelled-requires-2
 unfolding intervals_text
-labelled-b-requires c = omega (arith, c.requires, labelled_end intervals_text _ _ c.labelled-a.ensures)
+labelled-requires-2 c = omega (arith, c.requires, labelled_end intervals_text _ _ c.labelled.ensures.written)
 
-pub labelled-requires : goal.labelled-requires
+pub labelled-requires-3 : goal.labelled-requires-3
 unfolding intervals_text faults_text
-labelled-requires c =
-    omega (arith, c.requires, labelled_end intervals_text _ _ c.labelled-a.ensures, labelled_end faults_text _ _ c.labelled-b.ensures)
+labelled-requires-3 c =
+    omega (
+      arith,
+      c.requires,
+      labelled_end intervals_text _ _ c.labelled.ensures.written,
+      labelled_end faults_text _ _ c.labelled-2.ensures.written,
+    )
 
 pub returns : goal.returns
 unfolding intervals_text faults_text skipped_text
-returns c = numbers_written _ _ _ c.labelled-a.ensures c.labelled-b.ensures c.labelled.ensures
+returns c = numbers_printed _ _ _ c.labelled.ensures c.labelled-2.ensures c.labelled-3.ensures

@@ -3,8 +3,7 @@ use mathlib.Core.Path.{◌≡◌}
 use mathlib.Core.List.{List}
 use Prim.Native.Nat.{ℕ, ◌+◌, ◌*◌, ◌-◌, ◌≤◌}
 use lib.ListN.{length, drop}
-use Rattle.answer.specs.declared.Answer.{Answer}
-use Rattle.answer.specs.declared.Answer.TheVariants as answers
+use Rattle.answer.specs.Answer.{Answer}
 use Rattle.comparison.specs.declared.Cut.{Cut}
 use Rattle.comparison.specs.Comparison.{compare_blocks}
 use Rattle.comparison.specs.Inner.{parts_of}
@@ -27,8 +26,5 @@ pub record Going (k : Cut) (address count : ℕ) (stored sent : List ℕ) (left 
   pub fewer : left ≤ count
   pub rest : all k (address + (count - left)) left (drop i stored) (drop j sent) ≡ all k address count stored sent
 
-abbrev pub invariant-loop-left : goal.invariant-loop-left
-invariant-loop-left l = Going l.k l.address l.count l.stored l.sent l.left l.i l.j
-
-abbrev pub decreases-loop-left : goal.decreases-loop-left
-decreases-loop-left l = l.left
+abbrev pub invariant-loop-i : goal.invariant-loop-i
+invariant-loop-i l = Going l.k l.address l.count l.stored l.sent (l.count - l.i) (l.i * block l.k) (l.i * each l.k)

@@ -1,25 +1,20 @@
 -- `comparison::same_block`: the pieces that are left are the same exactly when, behind those seen, all are.
-use mathlib.Core.Path.{◌≡◌, refl, sym, ap, ap₂, ◌∙◌}
+use mathlib.Core.Path.{◌≡◌, sym, ap, ap₂, ◌∙◌}
 use mathlib.Core.Bool.{Bool, true, false, not, ◌&&◌}
 use mathlib.Core.List.{List}
 use Prim.Native.Nat.{ℕ, ◌+◌, ◌-◌, ◌<◌, ◌≤◌}
-use native.Mathlib.Nat.{zero-add}
 use native.Mathlib.Omega.{arith}
 use borrow.Author.Tests.{not-true, not-false}
 use lib.ListN.{length, take, drop, length-drop, drop_of_length-le}
 use lib.Seq.{drop-drop}
-use Rattle.words.proofs.BigEndian.{part_length}
 use Rattle.words.proofs.Parts.{part_at}
 use Rattle.words.proofs.Runs.{peel_within, peel_rest, peel_end}
 use Rattle.comparison.specs.declared.Cut.{Cut}
 use Rattle.comparison.specs.Comparison.{same}
-use Rattle.comparison.specs.Inner.{parts_of, Pair}
+use Rattle.comparison.specs.Inner.{parts_of}
 use Rattle.comparison.proofs.Parts.{piece_turn, pieces_end}
 use Rattle.comparison.proofs.same_block.Invariants.{Going}
 use Rattle.comparison.proofs.same_block.Goals as goal
-
-begins : {k : Cut} {stored sent : List ℕ} → Pair k k.pieces (length stored) (length sent) → Going k stored sent k.pieces 0 0
-begins p = record { from = zero-add _ ∙ p.from; to = zero-add _ ∙ p.to; apart = p.apart; rest = refl }
 
 ends : {k : Cut} {stored sent : List ℕ} {left i j : ℕ} → Going k stored sent left i j → left ≤ 0 → true ≡ same (parts_of k k.pieces stored) sent
 ends {k} {stored} {sent} {left} {i} {j} g h =
@@ -32,9 +27,6 @@ module _ {k : Cut} {stored sent : List ℕ} {left i j : ℕ} (g : Going k stored
 
   room : j + k.size ≤ length sent
   room = peel_within left j k.size (length sent) h g.to
-
-  as_long : length (take (i + k.size - i) (drop i stored)) ≡ length (take (j + k.size - j) (drop j sent))
-  as_long = part_length i k.size stored (omega (arith, within, g.apart)) ∙ sym (part_length j k.size sent room)
 
   module _ {b : Bool} (e : b ≡ same (take (i + k.size - i) (drop i stored)) (take (j + k.size - j) (drop j sent))) where
     turned : (b && same (parts_of k (left - 1) (drop (i + k.stride) stored)) (drop (j + k.size) sent)) ≡ same (parts_of k k.pieces stored) sent
@@ -55,36 +47,17 @@ module _ {k : Cut} {stored sent : List ℕ} {left i j : ℕ} (g : Going k stored
           rest = rw (not-false b n) at turned;
         }
 
-pub loop-left-init : goal.loop-left-init
-loop-left-init c = begins c.requires
-
-pub overflow_add-m : goal.overflow_add-m
-overflow_add-m c =
-    let g = c.loop-left.invariant in
-    omega (arith, within g c.loop-left-test.true, g.apart, c.well_formed)
-
-pub overflow_add-last : goal.overflow_add-last
-overflow_add-last c = omega (arith, room c.loop-left.invariant c.loop-left-test.true, c.well_formed)
-
-pub slice_bounds-same-end : goal.slice_bounds-same-end
-slice_bounds-same-end c =
-    let g = c.loop-left.invariant in
-    omega (arith, within g c.loop-left-test.true, g.apart)
-
-pub same-requires : goal.same-requires
-same-requires c = as_long c.loop-left.invariant c.loop-left-test.true
+onward : {k : Cut} {stored sent : List ℕ} {left i j left' i' j' : ℕ} → left' ≡ left → i' ≡ i → j' ≡ j → Going k stored sent left i j → Going k stored sent left' i' j'
+onward e f f' g = rw (e, f, f') g
 
 pub returns-then-not-same : goal.returns-then-not-same
 returns-then-not-same c =
-    stop c.loop-left.invariant c.loop-left-test.true c.same.ensures (ap not c.if-not-same.true)
+    stop c.loop-i.invariant (omega arith) c.same.ensures (ap not c.if-not-same.true)
 
-pub overflow_add-i : goal.overflow_add-i
-overflow_add-i c =
-    omega (arith, within c.loop-left.invariant c.loop-left-test.true, c.well_formed)
-
-pub loop-left-preserved : goal.loop-left-preserved
-loop-left-preserved c =
-    turn c.loop-left.invariant c.loop-left-test.true c.same.ensures (ap not c.if-not-same.false)
+pub loop-i-preserved : goal.loop-i-preserved
+loop-i-preserved c =
+    onward (omega arith) (omega arith) (omega arith)
+    (turn c.loop-i.invariant (omega arith) c.same.ensures (ap not c.if-not-same.false))
 
 pub returns : goal.returns
-returns c = ends c.loop-left.invariant c.loop-left-test.false
+returns c = ends c.loop-i.invariant (omega arith)

@@ -14,8 +14,5 @@ pub record Going (k : Cut) (stored sent : List ℕ) (left i j : ℕ) : Type 0 wh
   pub apart : k.size ≤ k.stride
   pub rest : same (parts_of k left (drop i stored)) (drop j sent) ≡ same (parts_of k k.pieces stored) sent
 
-abbrev pub invariant-loop-left : goal.invariant-loop-left
-invariant-loop-left l = Going (record { pieces = l.initial.left; size = l.size; stride = l.stride }) l.stored l.sent l.left l.i l.j
-
-abbrev pub decreases-loop-left : goal.decreases-loop-left
-decreases-loop-left l = l.left
+abbrev pub invariant-loop-i : goal.invariant-loop-i
+invariant-loop-i l = Going l.k l.stored l.sent (l.k.pieces - l.i) (l.i * l.k.stride) (l.i * l.k.size)

@@ -4,8 +4,7 @@ use mathlib.Core.List.{List}
 use Prim.Native.Nat.{ℕ, ◌≤◌}
 use lib.ListN.{length, get_or}
 use Rattle.words.specs.BigEndian.{number_at}
-use Rattle.decoding.specs.declared.Named.{Named}
-use Rattle.decoding.specs.Commands.{find, service_action, recognise}
+use Rattle.decoding.specs.Commands.{find, service_action, recognise, Named}
 use Rattle.decoding.proofs.Laws.{recognise_empty, recognise_byte, recognise_short, recognise_action}
 use Rattle.decoding.proofs.recognise.Goals as goal
 

@@ -8,7 +8,7 @@ pub returns-then-k-eq0 : goal.returns-then-k-eq0
 returns-then-k-eq0 t c = search (hexadecimal_none, rules)
 
 pub put-requires : goal.put-requires
-put-requires t c = omega (arith, hexadecimal_end _ _ c.hexadecimal-end.ensures)
+put-requires t c = omega (arith, hexadecimal_end _ _ c.hexadecimal.ensures.written)
 
 pub returns : goal.returns
 returns t c = search (hexadecimal_next, rules)

@@ -1,14 +1,15 @@
 -- `execute::execute`: what admission refuses is refused; what it lets go on is performed.
-use mathlib.Core.Path.{sym, ◌∙◌}
-use Rattle.admission.proofs.Ready.{admitted_ready}
+use Rattle.std.proofs.lemmas.Result.{err_from_is_err_and}
 use Rattle.execute.proofs.Outcomes.{refused_outcome, went_outcome}
 use Rattle.execute.proofs.execute.Goals as goal
 
+pub returns-in_err-a : goal.returns-in_err-a
+returns-in_err-a c =
+    let p = err_from_is_err_and c.from_residual.result c.from_residual.ensures.1 in
+    rw (p.1, p.2) (refused_outcome _ _ _ _ c.in_err-a.ensures)
+
 pub perform-requires : goal.perform-requires
-perform-requires c = admitted_ready _ _ _ _ (sym c.admit-decided.ensures ∙ c.in-Go.is)
+perform-requires c = c.in_ok-a.ensures.2
 
-pub returns-in-Refused : goal.returns-in-Refused
-returns-in-Refused c = refused_outcome _ _ _ _ (sym c.admit-decided.ensures ∙ c.in-Refused.is)
-
-pub returns-in-Go : goal.returns-in-Go
-returns-in-Go c = went_outcome _ _ _ _ _ _ (sym c.admit-decided.ensures ∙ c.in-Go.is) c.perform.ensures
+pub returns : goal.returns
+returns c = went_outcome _ _ _ _ _ _ c.in_ok-a.ensures.0 (rw c.in_ok-a.ensures.1 at c.perform.ensures)

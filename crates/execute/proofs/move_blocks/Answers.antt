@@ -2,7 +2,7 @@
 use mathlib.Core.Path.{refl, ap}
 use native.Mathlib.Omega.{arith}
 use Rattle.command.specs.Compares.{is_verify}
-use Rattle.execute.proofs.Outcomes.{within, shaped, part, fitted, blocks_are, read_moved, write_moved, verify_moved}
+use Rattle.execute.proofs.Outcomes.{within, part, fitted, blocks_are, read_moved, write_moved, verify_moved}
 use Rattle.execute.proofs.move_blocks.Goals as goal
 
 pub slice_bounds-hand_out-count : goal.slice_bounds-hand_out-count
@@ -14,12 +14,12 @@ slice_bounds-hand_out-end c = let pre = c.requires in within pre.ready _ _ pre.a
 pub hand_out-requires : goal.hand_out-requires
 hand_out-requires c =
     let pre = c.requires in
-    record { shaped = shaped pre.ready; s_len = part pre.ready _ _ _ refl pre.at_value.0 pre.at_value.1; fitted = fitted pre.ready (ap is_verify c.in-Read.is) }
+    record { s_len = part pre.ready _ _ _ refl pre.at_value.0 pre.at_value.1; fitted = fitted pre.ready (ap is_verify c.in-Read.is) }
 
 pub store-requires : goal.store-requires
 store-requires c =
     let pre = c.requires in
-    record { right = pre.right; shaped = shaped pre.ready; length_in_bounds = within pre.ready _ _ pre.at_value.0 refl; fitted = fitted pre.ready (ap is_verify c.in-Write.is) }
+    record { length_in_bounds = within pre.ready _ _ pre.at_value.0 refl; fitted = fitted pre.ready (ap is_verify c.in-Write.is) }
 
 pub returns-in-Read : goal.returns-in-Read
 returns-in-Read c =

@@ -15,8 +15,5 @@ pub record Going (size count : ℕ) (d₀ d : List ℕ) (left at : ℕ) : Type 0
   pub to : at + left * (size + 8) ≡ length d₀
   pub made : take at d ++ runs (piece size) (λ t. t) 0 left 0 [] ≡ fresh_intervals size count
 
-abbrev pub invariant-loop-left : goal.invariant-loop-left
-invariant-loop-left l = Going l.size l.count l.fn.d l.d l.left l.at
-
-abbrev pub decreases-loop-left : goal.decreases-loop-left
-decreases-loop-left l = l.left
+abbrev pub invariant-loop-i : goal.invariant-loop-i
+invariant-loop-i l = Going l.size l.count l.fn.d l.d (l.count - l.i) (l.i * (l.size + 8))

@@ -5,8 +5,7 @@ use Prim.Native.Nat.{ℕ}
 use lib.Dec.{eqb}
 use borrow.Author.Tests.{eq-eqb, ne_eqb, not-true, not-false}
 use Rattle.answer.specs.declared.Reason.TheVariants.{FieldInvalid}
-use Rattle.format.specs.declared.Choice.{Choice}
-use Rattle.format.specs.Choice.{sentences, supports, by_usage, illegal}
+use Rattle.format.specs.Choice.{Choice, sentences, supports, by_usage, illegal}
 use mathlib.Core.Path.{ap}
 use Rattle.format.proofs.sentences.Goals as goal
 

@@ -22,19 +22,19 @@ end : (s : List ℕ) (r i g : ℕ) → length s ≤ i → divide r (terms_of (dr
 unfolding terms_of terms
 end s r i g h e = sym (divide_append r (terms 8 0) (terms 8 0)) ∙ (rw (drop_of_length-le s h) at e)
 
-pub loop-i-init : goal.loop-i-init
+pub loop-b-init : goal.loop-b-init
 unfolding guard
-loop-i-init c = (omega arith, refl)
+loop-b-init c = (omega arith, refl)
 
-pub loop-i-preserved : goal.loop-i-preserved
-loop-i-preserved c =
-    let l = c.loop-i in
+pub loop-b-preserved : goal.loop-b-preserved
+loop-b-preserved c =
+    let l = c.loop-b in
     let s = c.args.«data».now in
-    let here : l.i < length s = omega arith in
-    (omega arith, rw c.divide_byte-r.ensures (next s l.r l.i _ here l.invariant.1))
+    let here : l.b-index < length s = omega arith in
+    (omega arith, rw c.divide_byte-r.ensures (next s l.r l.b-index _ here l.invariant.1))
 
 pub returns : goal.returns
 returns c =
-    let l = c.loop-i in
+    let l = c.loop-b in
     rw (c.divide_byte-2.ensures, c.divide_byte.ensures)
-    (end _ l.r l.i _ c.loop-i-test.false l.invariant.1)
+    (end _ l.r l.b-index _ c.loop-b-test.false l.invariant.1)

@@ -1,8 +1,8 @@
 -- `guards::fill_guards`: the guards that stand, and those of the intervals that are left, make up all of them.
 use mathlib.Core.Path.{◌≡◌, refl, ap, ◌∙◌}
 use mathlib.Core.List.{List}
-use Prim.Native.Nat.{ℕ, ◌+◌, ◌≤◌, ◌<◌, ◌-◌}
-use native.Mathlib.Nat.{zero-add}
+use Prim.Native.Nat.{ℕ, ◌+◌, ◌*◌, ◌≤◌, ◌<◌, ◌-◌}
+use native.Mathlib.Nat.{zero-add, zero-mul, sub-zero}
 use native.Mathlib.Omega.{arith}
 use lib.ListN.{length, take, drop}
 use Rattle.words.specs.BigEndian.{bytes}
@@ -13,11 +13,11 @@ use Rattle.words.proofs.Runs.{peel_within, peel_rest, peel_end, fill_next, fill_
 use Rattle.guard.specs.Guard.{guard}
 use Rattle.guards.specs.Guards.{guard_of_first, guards_of}
 use Rattle.guards.proofs.fill_guards.Invariants.{Going}
-use borrow.Author.Rules.{rules}
 use Rattle.guards.proofs.fill_guards.Goals as goal
 
-within : {s out₀ out : List ℕ} {size count left i at : ℕ} → Going s size count out₀ out left i at → 0 < left → i + size ≤ length s
-within {size = size} {i = i} g h = peel_within _ i size _ h g.from
+-- interval i and its guard stand behind i of them
+next : (i n : ℕ) → i * n + n ≡ (i + 1) * n
+next i n = omega arith
 
 room : {s out₀ out : List ℕ} {size count left i at : ℕ} → Going s size count out₀ out left i at → 0 < left → at + 2 ≤ length out₀
 room {at = at} g h = peel_within _ at 2 _ h g.to
@@ -37,42 +37,24 @@ turn {s} {out₀} {out} {new} {size} {count} {left} {i} {at} {r} g h e w =
       made = rw w (fill_next (guard_of_first size) (λ t. t) size left at i 2 0 s out (bytes 2 r) _ h two fits piece g.made);
     }
 
-pub loop-left-init : goal.loop-left-init
+pub loop-i-init : goal.loop-i-init
 unfolding guards_of
-loop-left-init c = record { kept = refl; from = rw zero-add c.requires.size_value; to = rw zero-add c.requires.count_value; made = refl }
+loop-i-init c =
+    record {
+      kept = refl;
+      from = rw (zero-mul, sub-zero, zero-add) c.requires.size_value;
+      to = rw (zero-mul, sub-zero, zero-add) c.requires.count_value;
+      made = rw (zero-mul, sub-zero) refl;
+    }
 
-pub overflow_add-end : goal.overflow_add-end
-overflow_add-end c = omega (arith, within c.loop-left.invariant c.loop-left-test.true, c.well_formed)
-
-pub slice_bounds-guard_through-count : goal.slice_bounds-guard_through-count
-slice_bounds-guard_through-count c = search rules
-
-pub slice_bounds-guard_through-start : goal.slice_bounds-guard_through-start
-slice_bounds-guard_through-start c = search rules
-
-pub slice_bounds-guard_through-end : goal.slice_bounds-guard_through-end
-slice_bounds-guard_through-end c = within c.loop-left.invariant c.loop-left-test.true
-
-pub guard_through-g-requires : goal.guard_through-g-requires
-guard_through-g-requires c = search rules
-
-pub write2-requires : goal.write2-requires
-write2-requires c = let l = c.loop-left in rw l.invariant.kept (room l.invariant c.loop-left-test.true)
-
-pub overflow_add-at : goal.overflow_add-at
-overflow_add-at c =
-    omega (arith, room c.loop-left.invariant c.loop-left-test.true, c.well_formed)
-
-pub overflow_sub-left : goal.overflow_sub-left
-overflow_sub-left c = search rules
-
-pub loop-left-smaller : goal.loop-left-smaller
-loop-left-smaller c = search rules
-
-pub loop-left-preserved : goal.loop-left-preserved
-loop-left-preserved c = search turn
+pub loop-i-preserved : goal.loop-i-preserved
+loop-i-preserved c =
+    let l = c.loop-i in
+    let fewer : c.args.count - l.i - 1 ≡ c.args.count - (l.i + 1) = omega arith in
+    rw (← fewer, ← next l.i c.args.size, ← next l.i 2) (turn l.invariant (omega arith) c.guard-g.ensures c.write2.ensures)
 
 pub returns : goal.returns
 returns c =
-    let l = c.loop-left in
-    fill_end _ _ _ l.left l.at l.i _ _ _ _ c.loop-left-test.false (rw l.invariant.kept (peel_end _ _ 2 _ c.loop-left-test.false l.invariant.to)) l.invariant.made
+    let l = c.loop-i in
+    let none : c.args.count - l.i ≤ 0 = omega arith in
+    fill_end _ _ _ _ _ (l.i * c.args.size) _ c.args.«data».now _ _ none (rw l.invariant.kept (peel_end _ _ 2 _ none l.invariant.to)) l.invariant.made

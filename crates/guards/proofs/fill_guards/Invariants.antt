@@ -13,8 +13,5 @@ pub record Going (s : List ℕ) (size count : ℕ) (out₀ out : List ℕ) (left
   pub to : at + left * 2 ≡ length out₀
   pub made : take at out ++ runs (guard_of_first size) (λ t. t) size left 0 (drop i s) ≡ guards_of size count s
 
-abbrev pub invariant-loop-left : goal.invariant-loop-left
-invariant-loop-left l = Going l.«data» l.size l.count l.fn.out l.out l.left l.i l.at
-
-abbrev pub decreases-loop-left : goal.decreases-loop-left
-decreases-loop-left l = l.left
+abbrev pub invariant-loop-i : goal.invariant-loop-i
+invariant-loop-i l = Going l.«data» l.size l.count l.fn.out l.out (l.count - l.i) (l.i * l.size) (l.i * 2)

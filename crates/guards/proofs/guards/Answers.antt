@@ -2,19 +2,19 @@
 use mathlib.Core.Path.{◌≡◌, sym, ap, ◌∙◌}
 use mathlib.Core.List.{List}
 use Prim.Native.Nat.{ℕ, ◌+◌, ◌*◌, ◌/◌, ◌%◌, ◌<◌}
-use native.Mathlib.Nat.{div-add-mod', div-le_self, add-zero}
+use native.Mathlib.Nat.{div-add-mod', add-zero}
 use native.Mathlib.Omega.{arith}
 use lib.Dec.{T, ltb, eqb, ltb→lt, eqb→eq, lt→ltb, eqb_refl}
 use lib.ListN.{length}
-use Rattle.words.proofs.Choice.{and_true, and_left, and_right, equal, unequal}
+use Rattle.words.proofs.Choice.{and_true, and_left, and_right}
+use Rattle.answer.specs.Answer.{good, refused}
 use Rattle.answer.specs.Outcome.{outcome}
-use Rattle.answer.specs.declared.Answer.TheVariants as answers
 use Rattle.answer.specs.declared.Reason.TheVariants as reasons
 use Rattle.answer.proofs.Ladder.{met, unmet}
 use Rattle.answer.proofs.Outcome.{refuses, leaves}
 use Rattle.guards.specs.Guards.{guards, guards_rule, guards_of, fits}
-use mathlib.Core.Bool.{not}
 use Rattle.guards.proofs.guards.Goals as goal
+use Rattle.guards.proofs.guards.Goals.{then-data-size-ne0-via-then-data-size-ne0, then-data-size-ne0-via-else-data-size-ne0+then-out-count}
 
 record Fit (s : List ℕ) (size : ℕ) (out : List ℕ) : Type 0 where
   some : 0 < size
@@ -39,34 +39,28 @@ fit s size out f =
     and_true (ltb 0 size) _ (lt→ltb 0 size f.some) (and_true (eqb (length s % size) 0) _ whole room)
 
 module _ (s : List ℕ) (size : ℕ) (out : List ℕ) where
-  refused : (Fit s size out → ⊥) → outcome (answers.Refused reasons.BufferLengthWrong) out ≡ guards s size out
+  unfit : (Fit s size out → ⊥) → outcome (refused reasons.BufferLengthWrong) out ≡ guards s size out
   unfolding guards guards_rule
-  refused n = refuses _ _ _ (unmet (fits s size out) _ (λ t. n (fit_facts s size out t)))
+  unfit n = refuses _ _ _ (unmet (fits s size out) _ (λ t. n (fit_facts s size out t)))
 
-  good : (new : List ℕ) → Fit s size out → new ≡ guards_of size (length s / size) s → outcome answers.Good new ≡ guards s size out
+  fitting : (new : List ℕ) → Fit s size out → new ≡ guards_of size (length s / size) s → outcome good new ≡ guards s size out
   unfolding guards guards_rule
-  good new f e = leaves _ _ _ (met (fits s size out) _ (fit s size out f)) e
+  fitting new f e = leaves _ _ _ (met (fits s size out) _ (fit s size out f)) e
 
 all : (n size : ℕ) → n % size ≡ 0 → n / size * size ≡ n
 all n size e = sym (add-zero (n / size * size)) ∙ ap (λ (r : ℕ). n / size * size + r) (sym e) ∙ div-add-mod' n size
 
 pub returns-then-size-eq0 : goal.returns-then-size-eq0
-returns-then-size-eq0 c = refused _ _ _ (λ f. omega (arith, f.some))
+returns-then-size-eq0 c = unfit _ _ _ (λ f. omega (arith, f.some))
 
-pub overflow_mul-count : goal.overflow_mul-count
-overflow_mul-count c = omega (arith, div-le_self (length c.args.«data».now) c.args.size, c.well_formed)
-
-pub returns-then-not-both : goal.returns-then-not-both
-returns-then-not-both c = refused _ _ _ (λ f. unequal _ _ _ _ _ c.both.ensures (ap not c.if-not-both.true) f.whole f.room)
-
-pub fill_guards-requires : goal.fill_guards-requires
-fill_guards-requires c =
-    let two = equal _ _ _ _ _ c.both.ensures (ap not c.if-not-both.false) in
-    record { right = c.table-t.ensures; size_value = all _ _ two.0; count_value = sym two.1 }
+pub returns-then-data-size-ne0 : goal.returns-then-data-size-ne0
+returns-then-data-size-ne0 c =
+    unfit _ _ _
+    (λ f. elim c.then-data-size-ne0.branch [
+      | then-data-size-ne0-via-then-data-size-ne0 w ↦ w.if-data-size-ne0.true f.whole
+      | then-data-size-ne0-via-else-data-size-ne0+then-out-count w ↦ w.if-out-count.true f.room
+    ])
 
 pub returns : goal.returns
 returns c =
-    let two = equal _ _ _ _ _ c.both.ensures (ap not c.if-not-both.false) in
-    good _ _ _ _
-    (record { some = omega arith; whole = two.0; room = two.1 })
-    c.fill_guards.ensures
+    fitting _ _ _ _ (record { some = omega arith; whole = c.if-data-size-ne0.false; room = c.if-out-count.false }) c.fill_guards.ensures

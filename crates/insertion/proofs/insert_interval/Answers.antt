@@ -1,5 +1,5 @@
 -- `insertion::insert_interval`: the data, and behind it the field.
-use Rattle.std.proofs.Common.{◌≡◌, ℕ, ◌+◌, ◌-◌, List, ◌++◌, length, drop, sym, ◌∙◌, append-nil, arith, length-append, length-drop, drop_of_length-le, length-take-le, rules}
+use Rattle.std.proofs.Common.{◌≡◌, ℕ, ◌+◌, ◌-◌, List, ◌++◌, length, drop, ◌∙◌, append-nil, arith, length-append, length-drop, drop_of_length-le}
 use lib.Seq.{take-append_seam, take-length}
 use borrow.Rule.Slice.PartMut.{put_mid}
 use Rattle.words.specs.Parts.{put}
@@ -9,7 +9,6 @@ use Rattle.field.specs.Field.{field_bytes}
 use Rattle.field.proofs.Laws.{field_length}
 use Rattle.insertion.specs.declared.Marks.{Marks}
 use Rattle.insertion.specs.Insertion.{with_field}
-use borrow.Author.Rules.{rules}
 use Rattle.insertion.proofs.insert_interval.Goals as goal
 
 -- the field put behind the data, up to the end
@@ -25,16 +24,5 @@ interval_made m g s d d₁ d₂ room e₁ eg e₂ =
     let nothing = drop_of_length-le old {i = n + length f} (omega arith) in
     rw (e₁, e₂, eg) (put_back n (length old) old f (omega arith) (omega arith) ∙ rw (take-append_seam, nothing, append-nil, take-length))
 
-pub slice_bounds-copy_with_guard-end-2 : goal.slice_bounds-copy_with_guard-end-2
-slice_bounds-copy_with_guard-end-2 c = sym (length-take-le _ _ (search rules))
-
-pub copy_with_guard-g-requires : goal.copy_with_guard-g-requires
-copy_with_guard-g-requires c = record { right = search rules; data_len = sym (length-take-le _ _ (search rules)) }
-
 pub returns : goal.returns
-returns c =
-    interval_made _ _ c.args.s.now c.args.d.now c.copy_with_guard-g.new.d _
-    c.requires.s_len
-    c.copy_with_guard-g.ensures.1
-    c.copy_with_guard-g.ensures.0
-    c.write.ensures
+returns c = interval_made _ _ c.args.s.now c.args.d.now c.copy-g.new.d _ c.requires c.copy-g.ensures.1 c.copy-g.ensures.0 c.write.ensures

@@ -7,12 +7,10 @@ use Rattle.interval.specs.declared.Escape.{Escape}
 use Rattle.interval.specs.Interval.{any_escapes}
 use Rattle.interval.proofs.any_escapes.Given as goal
 
+-- where the intervals that are left begin
 pub record Looking (e : Escape) (size count : ℕ) (s : List ℕ) (left i : ℕ) : Type 0 where
   pub from : i + left * (size + 8) ≡ length s
   pub same : any_escapes e size left (drop i s) ≡ any_escapes e size count s
 
-abbrev pub invariant-loop-left : goal.invariant-loop-left
-invariant-loop-left l = Looking l.e l.size l.count l.s l.left l.i
-
-abbrev pub decreases-loop-left : goal.decreases-loop-left
-decreases-loop-left l = l.left
+abbrev pub invariant-loop-k : goal.invariant-loop-k
+invariant-loop-k l = Looking l.e l.size l.count l.s (l.count - l.k) (l.k * (l.size + 8))

@@ -21,7 +21,7 @@ module _ (e : Escape) (f : List ℕ) where
     unfolding escapes
     tagged m = rw (m, a) refl
 
-    half : e ≡ Both → (n ≡ 0xFFFF → ⊥) → false ≡ escapes e f
+    half : e ≡ Both → (n ≡ 0xFFFF → ⊥) → eqb n 0xFFFF ≡ escapes e f
     unfolding escapes
     half m d = rw (m, ← a, ne_eqb n 0xFFFF d) refl
 
@@ -29,8 +29,8 @@ module _ (e : Escape) (f : List ℕ) where
     unfolding escapes
     both m b s w = rw (b, ← a, eq-eqb n 0xFFFF s, w) refl
 
-pub returns-then-stored_application-ne65535 : goal.returns-then-stored_application-ne65535
-returns-then-stored_application-ne65535 c = search half
+pub returns-else-stored_application-eq65535 : goal.returns-else-stored_application-eq65535
+returns-else-stored_application-eq65535 c = search half
 
 pub returns-in-Never : goal.returns-in-Never
 returns-in-Never c = search none
@@ -38,5 +38,5 @@ returns-in-Never c = search none
 pub returns-in-Tag : goal.returns-in-Tag
 returns-in-Tag c = search tagged
 
-pub returns-else-stored_application-ne65535 : goal.returns-else-stored_application-ne65535
-returns-else-stored_application-ne65535 c = search both
+pub returns-then-stored_application-eq65535 : goal.returns-then-stored_application-eq65535
+returns-then-stored_application-eq65535 c = search both

@@ -8,4 +8,4 @@ next : (n : ℕ) (p : Place) {q : Place} {tag : ℕ} → q ≡ place_on p 1 n ta
 next n p e t = e ∙ rw t refl
 
 pub returns : goal.returns
-returns c = next _ c.args.p c.place_on.ensures c.wrapping_add_u32.ensures.value
+returns c = next _ c.args.p c.place_on.ensures refl

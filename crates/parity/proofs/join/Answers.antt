@@ -4,7 +4,7 @@ use mathlib.Core.List.{List, ◌++◌, append_assoc}
 use Prim.Native.Nat.{ℕ, ◌+◌, ◌≤◌, ◌<◌, ◌-◌}
 use native.Mathlib.Omega.{arith}
 use lib.ListN.{length, take, drop, length-append}
-use lib.Seq.{take-add, take_at, take_all, length-take-le}
+use lib.Seq.{take-add, take_at, length-take-le}
 use borrow.Rule.Slice.PartMut.{put_mid, mid_of, mid_len, same_len_mid}
 use Rattle.parity.proofs.Stretches.{joined_length}
 use Rattle.parity.proofs.join.Invariants.{Going}
@@ -30,14 +30,10 @@ turn {whole} {out₀} {out} {new} {at} {end} g h l e =
       made = ap (take end) (sym (append_assoc (take at out) new _)) ∙ take_at (take at out ++ new) _ end seam ∙ upto;
     }
 
-done : {whole out₀ out : List ℕ} {at : ℕ} → Going whole out₀ out at → length out₀ ≤ at → out ≡ whole
-done {whole} {out₀} {out} {at} g h = sym (take_all at out (rw g.kept h)) ∙ g.made ∙ take_all at whole (rw g.sized h)
-
 pub loop-at-init : goal.loop-at-init
 loop-at-init c = record { kept = refl; sized = joined_length _ _ _ _ _ (search rules) (search rules); within = omega arith; made = refl }
 
 pub loop-at-preserved : goal.loop-at-preserved
-loop-at-preserved c = search turn
-
-pub returns : goal.returns
-returns c = search done
+loop-at-preserved c =
+    let next : c.loop-at.at + 4096 ≡ c.loop-at.at + c.min.result = omega arith in
+    rw next (turn c.loop-at.invariant (omega arith) (omega arith) c.join_stretch.ensures)

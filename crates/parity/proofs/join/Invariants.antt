@@ -1,7 +1,7 @@
 -- `parity::join`: what is made is as much of the whole, a stretch more with each turn.
 use mathlib.Core.Path.{◌≡◌}
 use mathlib.Core.List.{List}
-use Prim.Native.Nat.{ℕ, ◌≤◌, ◌-◌}
+use Prim.Native.Nat.{ℕ, ◌≤◌}
 use lib.ListN.{length, take}
 use Rattle.parity.specs.Stretch.{joined}
 use Rattle.parity.proofs.join.Given as goal
@@ -14,6 +14,3 @@ pub record Going (whole out₀ out : List ℕ) (at : ℕ) : Type 0 where
 
 abbrev pub invariant-loop-at : goal.invariant-loop-at
 invariant-loop-at l = Going (joined (length l.fn.out) l.m l.before l.n l.after) l.fn.out l.out l.at
-
-abbrev pub decreases-loop-at : goal.decreases-loop-at
-decreases-loop-at l = length l.fn.out - l.at

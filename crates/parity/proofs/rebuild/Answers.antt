@@ -1,15 +1,15 @@
 -- `parity::rebuild`: the parts before the lost one and those after it are whole parts, and its definition takes the same.
-use mathlib.Core.Path.{◌≡◌, sym, ◌∙◌}
+use mathlib.Core.Path.{◌≡◌, ◌∙◌}
 use mathlib.Core.List.{List}
 use Prim.Native.Nat.{ℕ, ◌+◌, ◌*◌, ◌-◌}
 use native.Mathlib.Nat.{suc-mul}
 use native.Mathlib.Numerals.{add-one}
 use native.Mathlib.Omega.{arith}
-use lib.ListN.{length, take, drop, length-take, length-drop}
-use lib.Seq.{take_all, length-take-le}
+use lib.ListN.{length, take, drop, length-drop}
+use lib.Seq.{take_all}
 use Rattle.parity.specs.Parity.{parity_of, rebuilt_of}
 use Rattle.parity.specs.Stretch.{joined}
-use Rattle.parity.proofs.Sums.{by_parts, part_before, behind}
+use Rattle.parity.proofs.Sums.{by_parts, part_before}
 use Rattle.parity.proofs.rebuild.Goals as goal
 
 restored : (long count lost : ℕ) (s new : List ℕ) → new ≡ joined long lost (take (lost * long) s) (count - lost) (take (length s - (lost * long + long)) (drop (lost * long + long) s))
@@ -19,23 +19,6 @@ restored long count lost s new e =
     let next : lost * long + long ≡ (lost + 1) * long = rw (add-one, suc-mul) in
     let all : take (length s - (lost * long + long)) (drop (lost * long + long) s) ≡ drop (lost * long + long) s = take_all (length s - (lost * long + long)) (drop (lost * long + long) s) (simp length-drop (omega arith)) in
     e ∙ rw (all, next, by_parts long lost _ (take (lost * long) s) s (λ j h. part_before long j lost s h))
-
-pub overflow_mul-end : goal.overflow_mul-end
-overflow_mul-end c = omega (arith, behind _ _ _ _ c.requires.0 c.requires.1, c.well_formed)
-
-pub overflow_add-next : goal.overflow_add-next
-overflow_add-next c = omega (arith, behind _ _ _ _ c.requires.0 c.requires.1, c.well_formed)
-
-pub slice_bounds-join-end : goal.slice_bounds-join-end
-slice_bounds-join-end c = let p = c.requires in sym (length-take-le _ _ (omega (arith, behind _ _ _ _ p.0 p.1)))
-
-pub slice_bounds-join-count : goal.slice_bounds-join-count
-slice_bounds-join-count c = let p = c.requires in omega (arith, behind _ _ _ _ p.0 p.1)
-
-pub join-requires : goal.join-requires
-join-requires c =
-    let p = c.requires in
-    (sym (length-take-le _ _ (omega (arith, behind _ _ _ _ p.0 p.1))), simp (length-take, length-drop) (omega (arith, behind _ _ _ _ p.0 p.1)))
 
 pub returns : goal.returns
 returns c = restored _ _ _ _ _ c.join.ensures

@@ -1,8 +1,7 @@
 -- `parity::xor_stretch`: what stands, with the parts that are left, gives what all parts give; two parts are two turns of one.
 use mathlib.Core.Path.{◌≡◌, refl, sym, ap, ◌∙◌}
 use mathlib.Core.List.{List}
-use Prim.Native.Nat.{ℕ, zero, suc, ◌+◌, ◌≤◌, ◌<◌, ◌-◌}
-use native.Mathlib.Nat.{zero-add}
+use Prim.Native.Nat.{ℕ, zero, suc, ◌+◌, ◌*◌, ◌≤◌, ◌<◌, ◌-◌}
 use native.Mathlib.Omega.{arith}
 use lib.ListN.{length, take, drop, length-take, length-drop}
 use lib.Seq.{drop-drop}
@@ -15,12 +14,6 @@ use Rattle.parity.proofs.xor_stretch.Goals as goal
 
 within : {piece₀ parts piece : List ℕ} {at long count left i : ℕ} → Going piece₀ parts at long count piece left i → 0 < left → i + long ≤ length parts
 within {long = long} {i = i} g h = peel_within _ i long _ h g.from
-
-within_two : {piece₀ parts piece : List ℕ} {at long count left i : ℕ} → Going piece₀ parts at long count piece left i → 1 < left → i + long + long ≤ length parts
-within_two {long = long} {left = left} {i = i} g h = peel_within (left - 1) (i + long) long _ (omega arith) (peel_rest left i long _ (omega arith) g.from)
-
-reach : {piece₀ parts piece : List ℕ} {at long count left i : ℕ} → Going piece₀ parts at long count piece left i → 0 < left → i + at + length piece ≤ length parts
-reach g h = omega (arith, within g h, g.kept, g.near)
 
 next_made : (long n left i at : ℕ) (piece parts whole : List ℕ) → 0 < left → xor_stretch long n left piece (drop (i + at) parts) ≡ whole
     → xor_stretch long n (left - 1) (xors piece (take n (drop (i + at) parts))) (drop (i + long + at) parts) ≡ whole
@@ -65,51 +58,19 @@ last {piece₀} {piece = piece} {at = at} {left = left} {i = i} g h n w =
     let one : i + at + length piece - (i + at) ≡ length piece₀ = omega (arith, g.kept) in
     end_made _ _ (left - 1) _ _ _ (omega arith) (turn g (omega arith) (rw one at w)).made
 
-two_less : (left : ℕ) → 1 < left → left - 2 < left
-two_less left h = omega arith
+onward : {piece₀ parts piece : List ℕ} {at long count left i left' i' : ℕ} → left' ≡ left → i' ≡ i → Going piece₀ parts at long count piece left i
+    → Going piece₀ parts at long count piece left' i'
+onward e f g = rw (e, f) g
 
-pub loop-left-init : goal.loop-left-init
-loop-left-init c =
-    let pre = c.requires in
-    record { kept = refl; near = pre.0; from = rw zero-add pre.1; made = rw zero-add refl }
+pub loop-pair-preserved : goal.loop-pair-preserved
+loop-pair-preserved c =
+    onward (omega arith) (omega arith) (turn_two c.loop-pair.invariant (omega arith) c.xor_two.ensures)
 
-pub overflow_add-from : goal.overflow_add-from
-overflow_add-from c = omega (arith, within_two c.loop-left.invariant c.loop-left-test.true, c.loop-left.invariant.kept, c.loop-left.invariant.near, c.well_formed)
+pub returns-then-count-eq1 : goal.returns-then-count-eq1
+returns-then-count-eq1 c =
+    let l = c.loop-pair in
+    let before : c.args.count - 1 ≡ 2 * l.pair = omega arith in
+    last (onward refl (ap (λ n. n * c.args.long) before) l.invariant) (omega arith) (λ e. omega arith) c.xor_into.ensures
 
-pub overflow_add-end : goal.overflow_add-end
-overflow_add-end c = omega (arith, within_two c.loop-left.invariant c.loop-left-test.true, c.loop-left.invariant.kept, c.loop-left.invariant.near, c.well_formed)
-
-pub overflow_add-next : goal.overflow_add-next
-overflow_add-next c = omega (arith, within_two c.loop-left.invariant c.loop-left-test.true, c.loop-left.invariant.kept, c.loop-left.invariant.near, c.well_formed)
-
-pub overflow_add-next_end : goal.overflow_add-next_end
-overflow_add-next_end c = omega (arith, within_two c.loop-left.invariant c.loop-left-test.true, c.loop-left.invariant.kept, c.loop-left.invariant.near, c.well_formed)
-
-pub overflow_add-i : goal.overflow_add-i
-overflow_add-i c =
-    omega (arith, within_two c.loop-left.invariant c.loop-left-test.true, c.well_formed)
-
-pub overflow_add-i-in-loop-left : goal.overflow_add-i-in-loop-left
-overflow_add-i-in-loop-left c =
-    omega (arith, within_two c.loop-left.invariant c.loop-left-test.true, c.well_formed)
-
-pub loop-left-smaller : goal.loop-left-smaller
-loop-left-smaller c = two_less _ c.loop-left-test.true
-
-pub loop-left-preserved : goal.loop-left-preserved
-loop-left-preserved c =
-    turn_two c.loop-left.invariant c.loop-left-test.true c.xor_two.ensures
-
-pub returns-then-left-eq0 : goal.returns-then-left-eq0
-returns-then-left-eq0 c =
-    let l = c.loop-left in
-    end_made _ _ l.left _ _ _ (omega arith) l.invariant.made
-
-pub overflow_add-from-2 : goal.overflow_add-from-2
-overflow_add-from-2 c = omega (arith, reach c.loop-left.invariant (omega (arith, c.if-left-eq0.false)), c.well_formed)
-
-pub overflow_add-end-2 : goal.overflow_add-end-2
-overflow_add-end-2 c = omega (arith, reach c.loop-left.invariant (omega (arith, c.if-left-eq0.false)), c.well_formed)
-
-pub returns : goal.returns
-returns c = search last
+pub returns-else-count-eq1 : goal.returns-else-count-eq1
+returns-else-count-eq1 c = end_made _ _ _ _ _ _ (omega arith) c.loop-pair.invariant.made

@@ -1,39 +1,44 @@
 -- `refusal::refusal`: rule after rule; the first that refuses answers.
 use mathlib.Core.Path.{sym, ◌∙◌}
-use Rattle.answer.proofs.Ladder.{stops, goes_on}
-use Rattle.refusal.specs.Refusal.{buffer_rule, refusal}
+use Rattle.std.proofs.lemmas.Result.{err_from_is_err_and}
+use Rattle.answer.proofs.Ladder.{hands_on, goes_past}
+use Rattle.refusal.specs.Refusal.{refusal}
 use Rattle.refusal.proofs.Rules.{short}
-use mathlib.Core.Path.{ap}
-use mathlib.Core.Bool.{not}
 use Rattle.refusal.proofs.refusal.Goals as goal
 
-pub returns-then-not-is_good : goal.returns-then-not-is_good
+pub returns-in_err-type_rules : goal.returns-in_err-type_rules
 unfolding refusal
-returns-then-not-is_good c = sym (stops _ _ _ _ c.type_rules-kind.ensures c.is_good.ensures (ap not c.if-not-is_good.true))
+returns-in_err-type_rules c =
+    let p = err_from_is_err_and c.from_residual.result c.from_residual.ensures.1 in
+    rw (p.1, p.2) (hands_on _ _ _ c.in_err-type_rules.ensures)
 
-pub returns-then-not-is_good-2 : goal.returns-then-not-is_good-2
+pub returns-in_err-code_rule : goal.returns-in_err-code_rule
 unfolding refusal
-returns-then-not-is_good-2 c = sym (goes_on _ _ _ _ c.type_rules-kind.ensures c.is_good.ensures (ap not c.if-not-is_good.false) ∙ stops _ _ _ _ c.code_rule-code.ensures c.is_good-2.ensures (ap not c.if-not-is_good-2.true))
+returns-in_err-code_rule c =
+    let p = err_from_is_err_and c.from_residual-in_err-code_rule.result c.from_residual-in_err-code_rule.ensures.1 in
+    rw (p.1, p.2) (hands_on _ _ _ c.in_err-code_rule.ensures ∙ sym (goes_past _ _ c.in_ok-type_rules.ensures))
 
-pub returns-then-not-is_good-3 : goal.returns-then-not-is_good-3
+pub returns-in_err-check_rule : goal.returns-in_err-check_rule
 unfolding refusal
-returns-then-not-is_good-3 c = sym (goes_on _ _ _ _ c.type_rules-kind.ensures c.is_good.ensures (ap not c.if-not-is_good.false) ∙ goes_on _ _ _ _ c.code_rule-code.ensures c.is_good-2.ensures (ap not c.if-not-is_good-2.false) ∙ stops _ _ _ _ c.check_rule-check.ensures c.is_good-3.ensures (ap not c.if-not-is_good-3.true))
+returns-in_err-check_rule c =
+    let p = err_from_is_err_and c.from_residual-in_err-check_rule.result c.from_residual-in_err-check_rule.ensures.1 in
+    rw (p.1, p.2) (hands_on _ _ _ c.in_err-check_rule.ensures ∙ sym (goes_past _ _ c.in_ok-type_rules.ensures ∙ goes_past _ _ c.in_ok-code_rule.ensures))
 
-pub returns-then-not-is_good-4 : goal.returns-then-not-is_good-4
+pub returns-in_err-range_rule : goal.returns-in_err-range_rule
 unfolding refusal
-returns-then-not-is_good-4 c = sym (goes_on _ _ _ _ c.type_rules-kind.ensures c.is_good.ensures (ap not c.if-not-is_good.false) ∙ goes_on _ _ _ _ c.code_rule-code.ensures c.is_good-2.ensures (ap not c.if-not-is_good-2.false) ∙ goes_on _ _ _ _ c.check_rule-check.ensures c.is_good-3.ensures (ap not c.if-not-is_good-3.false) ∙ stops _ _ _ _ c.range_rule-range.ensures c.is_good-4.ensures (ap not c.if-not-is_good-4.true))
+returns-in_err-range_rule c =
+    let p = err_from_is_err_and c.from_residual-in_err-range_rule.result c.from_residual-in_err-range_rule.ensures.1 in
+    rw (p.1, p.2) (hands_on _ _ _ c.in_err-range_rule.ensures ∙ sym (goes_past _ _ c.in_ok-type_rules.ensures ∙ goes_past _ _ c.in_ok-code_rule.ensures ∙ goes_past _ _ c.in_ok-check_rule.ensures))
 
-pub size_rule-size-requires : goal.size_rule-size-requires
-size_rule-size-requires c = record { segment = c.requires; length_bound = short _ c.args.c _ _ c.requires c.range_rule-range.ensures c.is_good-4.ensures (ap not c.if-not-is_good-4.false) }
+pub invariant_of-within : goal.invariant_of-within
+invariant_of-within c = record { few = short _ c.args.c c.args.s.is c.in_ok-range_rule.ensures }
 
-pub returns-then-not-is_good-5 : goal.returns-then-not-is_good-5
+pub returns-in_err-size_rule : goal.returns-in_err-size_rule
 unfolding refusal
-returns-then-not-is_good-5 c = sym (goes_on _ _ _ _ c.type_rules-kind.ensures c.is_good.ensures (ap not c.if-not-is_good.false) ∙ goes_on _ _ _ _ c.code_rule-code.ensures c.is_good-2.ensures (ap not c.if-not-is_good-2.false) ∙ goes_on _ _ _ _ c.check_rule-check.ensures c.is_good-3.ensures (ap not c.if-not-is_good-3.false) ∙ goes_on _ _ _ _ c.range_rule-range.ensures c.is_good-4.ensures (ap not c.if-not-is_good-4.false) ∙ stops _ _ _ _ c.size_rule-size.ensures c.is_good-5.ensures (ap not c.if-not-is_good-5.true))
-
-pub buffer_rule-requires : goal.buffer_rule-requires
-buffer_rule-requires c = record { segment = c.requires; length_bound = short _ c.args.c _ _ c.requires c.range_rule-range.ensures c.is_good-4.ensures (ap not c.if-not-is_good-4.false) }
+returns-in_err-size_rule c =
+    let p = err_from_is_err_and c.from_residual-in_err-size_rule.result c.from_residual-in_err-size_rule.ensures.1 in
+    rw (p.1, p.2) (hands_on _ _ _ c.in_err-size_rule.ensures ∙ sym (goes_past _ _ c.in_ok-type_rules.ensures ∙ goes_past _ _ c.in_ok-code_rule.ensures ∙ goes_past _ _ c.in_ok-check_rule.ensures ∙ goes_past _ _ c.in_ok-range_rule.ensures))
 
 pub returns : goal.returns
 unfolding refusal
-returns c =
-    c.buffer_rule.ensures ∙ sym (goes_on _ _ _ _ c.type_rules-kind.ensures c.is_good.ensures (ap not c.if-not-is_good.false) ∙ goes_on _ _ _ _ c.code_rule-code.ensures c.is_good-2.ensures (ap not c.if-not-is_good-2.false) ∙ goes_on _ _ _ _ c.check_rule-check.ensures c.is_good-3.ensures (ap not c.if-not-is_good-3.false) ∙ goes_on _ _ _ _ c.range_rule-range.ensures c.is_good-4.ensures (ap not c.if-not-is_good-4.false) ∙ goes_on _ _ _ _ c.size_rule-size.ensures c.is_good-5.ensures (ap not c.if-not-is_good-5.false))
+returns c = c.buffer_rule.ensures ∙ sym (goes_past _ _ c.in_ok-type_rules.ensures ∙ goes_past _ _ c.in_ok-code_rule.ensures ∙ goes_past _ _ c.in_ok-check_rule.ensures ∙ goes_past _ _ c.in_ok-range_rule.ensures ∙ goes_past _ _ c.in_ok-size_rule.ensures)

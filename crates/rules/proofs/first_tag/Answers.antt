@@ -1,5 +1,5 @@
 -- `rules::first_tag`: the type decides.
-use mathlib.Core.Path.{sym}
+use mathlib.Core.Path.{sym, ◌∙◌}
 use Rattle.rules.proofs.Laws.{tag_one, tag_other}
 use Rattle.rules.proofs.first_tag.Goals as goal
 
@@ -7,4 +7,4 @@ pub returns-then-d-eq1 : goal.returns-then-d-eq1
 returns-then-d-eq1 c = sym (tag_one _ _ c.if-d-eq1.true)
 
 pub returns-else-d-eq1 : goal.returns-else-d-eq1
-returns-else-d-eq1 c = sym (tag_other _ _ c.if-d-eq1.false)
+returns-else-d-eq1 c = c.tag.ensures ∙ sym (tag_other _ c.args.c c.if-d-eq1.false)

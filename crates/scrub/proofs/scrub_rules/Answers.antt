@@ -1,16 +1,22 @@
 -- `scrub::scrub_rules`: the description and the length first, then the place.
-use mathlib.Core.Path.{sym, ◌∙◌}
-use Rattle.answer.proofs.Ladder.{stops, goes_on}
+use Rattle.std.proofs.Common.{sym, ◌∙◌}
+use Rattle.std.proofs.lemmas.Result.{err_from_is_err_and}
+use Rattle.answer.proofs.Ladder.{hands_on, goes_past}
 use Rattle.scrub.specs.Scrub.{scrub_rules}
-use mathlib.Core.Path.{ap}
-use mathlib.Core.Bool.{not}
 use Rattle.scrub.proofs.scrub_rules.Goals as goal
 
-pub returns-then-not-is_good : goal.returns-then-not-is_good
+pub returns-in_err-s-clause-answer : goal.returns-in_err-s-clause-answer
 unfolding scrub_rules
-returns-then-not-is_good c = sym (stops _ _ _ _ c.segment_rules-a.ensures c.is_good.ensures (ap not c.if-not-is_good.true))
+returns-in_err-s-clause-answer c =
+    let p = err_from_is_err_and c.from_residual.result c.from_residual.ensures.1 in
+    rw (p.1, p.2) (hands_on _ _ _ c.in_err-s.ensures.answer)
 
-pub returns : goal.returns
+pub returns-in_err-place_rule-clause-answer : goal.returns-in_err-place_rule-clause-answer
 unfolding scrub_rules
-returns c =
-    c.place_rule.ensures ∙ sym (goes_on _ _ _ _ c.segment_rules-a.ensures c.is_good.ensures (ap not c.if-not-is_good.false))
+returns-in_err-place_rule-clause-answer c =
+    let p = err_from_is_err_and c.from_residual-in_err-place_rule.result c.from_residual-in_err-place_rule.ensures.1 in
+    rw (p.1, p.2) (sym c.in_err-place_rule.was ∙ c.place_rule.ensures ∙ sym (goes_past _ _ c.in_ok-s.ensures.answer))
+
+pub returns-clause-answer : goal.returns-clause-answer
+unfolding scrub_rules
+returns-clause-answer c = sym c.in_ok-place_rule.was ∙ c.place_rule.ensures ∙ sym (goes_past _ _ c.in_ok-s.ensures.answer)

@@ -1,10 +1,6 @@
 -- `scrub::step`: what has been found, with the blocks that are left, gives what all of them give.
-use Prim.Native.Nat.{◌-◌}
 use Rattle.scrub.proofs.Laws.{Going}
 use Rattle.scrub.proofs.step.Given as goal
 
 abbrev pub invariant-loop-judged : goal.invariant-loop-judged
-invariant-loop-judged l = Going l.d l.s l.place l.count l.found l.judged
-
-abbrev pub decreases-loop-judged : goal.decreases-loop-judged
-decreases-loop-judged l = l.count - l.judged
+invariant-loop-judged l = Going l.d.numbers l.s l.place l.count l.found l.judged

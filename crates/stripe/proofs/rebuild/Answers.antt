@@ -1,43 +1,52 @@
--- `stripe::rebuild`: the rules with both numbers first; then the lengths, asked at once.
-use mathlib.Core.Path.{sym, ap, ◌∙◌}
-use mathlib.Core.Bool.{Bool, ◌&&◌}
-use Prim.Native.Nat.{◌+◌}
-use native.Mathlib.Omega.{arith}
+-- `stripe::rebuild`: the rules with both numbers first; then the lengths.
+use mathlib.Core.Path.{◌≡◌, sym, ap, ◌∙◌}
+use mathlib.Core.Bool.{Bool, true, false, ◌&&◌}
+use mathlib.Core.Logic.{◌⊎◌, inl, inr}
+use Prim.Native.Nat.{ℕ, ◌+◌}
 use lib.Dec.{leb}
+use native.Mathlib.Omega.{arith}
+use Rattle.std.proofs.lemmas.Result.{err_from_is_err_and}
+use Rattle.segment.specs.Segment.{length_of}
 use Rattle.stripe.specs.Stripe.{stripe_rules, in_range}
-use Rattle.stripe.proofs.Ladder.{all_most, parts_told, lost_facts, passed}
+use Rattle.stripe.proofs.Ladder.{all_most, parts_long, lost_facts, passed}
 use Rattle.stripe.proofs.Fits.{rebuild_stopped, rebuild_unfit, rebuild_good}
-use mathlib.Core.Bool.{not}
 use Rattle.stripe.proofs.rebuild.Goals as goal
+use Rattle.stripe.proofs.rebuild.Goals.{then-in_range, else-in_range, then-parts-count-via-then-parts-count, then-parts-count-via-else-parts-count+then-out-long}
 
-pub returns-then-not-is_good : goal.returns-then-not-is_good
-returns-then-not-is_good c = rebuild_stopped _ _ _ _ _ _ _ (c.stripe_rules-a.ensures ∙ ap (stripe_rules c.args.d) (c.both.ensures ∙ ap (λ (b : Bool). b && leb c.args.lost c.args.k) c.in_range.ensures)) c.is_good.ensures (ap not c.if-not-is_good.true)
+-- the second test is made where the first is true
+both : (k lost : ℕ) (range shaped : Bool) → range ≡ in_range k → (range ≡ true) × (shaped ≡ leb lost k) ⊎ (range ≡ false) × (shaped ≡ range) → shaped ≡ (in_range k && leb lost k)
+both k lost range shaped e (inl w) = rw (← e, w.0) w.1
+both k lost range shaped e (inr w) = rw (← e, w.0) (w.1 ∙ w.0)
 
-pub length-long-requires : goal.length-long-requires
-length-long-requires c = (passed _ _ _ _ (c.stripe_rules-a.ensures ∙ ap (stripe_rules c.args.d) (c.both.ensures ∙ ap (λ (b : Bool). b && leb c.args.lost c.args.k) c.in_range.ensures)) c.is_good.ensures (ap not c.if-not-is_good.false)).0
+pub returns-in_err-s : goal.returns-in_err-s
+returns-in_err-s c =
+    let p = err_from_is_err_and c.from_residual.result c.from_residual.ensures.1 in
+    rw (p.1, p.2) (rebuild_stopped _ _ _ _ _ _ (c.in_err-s.ensures.answer ∙ ap (stripe_rules c.args.d) (both c.args.k c.args.lost _ _ c.in_range.ensures (elim c.if-in_range.branch [ then-in_range w ↦ inl (w.if-in_range.true, w.shaped-is) | else-in_range w ↦ inr (w.if-in_range.false, w.shaped-is) ]))))
 
 pub overflow_mul-count : goal.overflow_mul-count
 overflow_mul-count c =
-    let p = passed _ _ _ _ (c.stripe_rules-a.ensures ∙ ap (stripe_rules c.args.d) (c.both.ensures ∙ ap (λ (b : Bool). b && leb c.args.lost c.args.k) c.in_range.ensures)) c.is_good.ensures (ap not c.if-not-is_good.false) in
+    let p = passed _ _ (c.in_ok-s.ensures.answer ∙ ap (stripe_rules c.args.d) (both c.args.k c.args.lost _ _ c.in_range.ensures (elim c.if-in_range.branch [ then-in_range w ↦ inl (w.if-in_range.true, w.shaped-is) | else-in_range w ↦ inr (w.if-in_range.false, w.shaped-is) ]))) in
     let few = (lost_facts c.args.k c.args.lost p.1.1).1 in
-    omega (arith, all_most _ (c.args.k + 1) _ p.0 c.length-long.ensures (omega (arith, few)))
+    omega (arith, all_most _ (c.args.k + 1) _ p.0 (c.length-long.ensures ∙ ap length_of c.in_ok-s.ensures.numbers) (omega (arith, few)))
 
 pub overflow_add-count : goal.overflow_add-count
 overflow_add-count c =
-    let p = passed _ _ _ _ (c.stripe_rules-a.ensures ∙ ap (stripe_rules c.args.d) (c.both.ensures ∙ ap (λ (b : Bool). b && leb c.args.lost c.args.k) c.in_range.ensures)) c.is_good.ensures (ap not c.if-not-is_good.false) in
+    let p = passed _ _ (c.in_ok-s.ensures.answer ∙ ap (stripe_rules c.args.d) (both c.args.k c.args.lost _ _ c.in_range.ensures (elim c.if-in_range.branch [ then-in_range w ↦ inl (w.if-in_range.true, w.shaped-is) | else-in_range w ↦ inr (w.if-in_range.false, w.shaped-is) ]))) in
     omega (arith, (lost_facts c.args.k c.args.lost p.1.1).1)
 
-pub returns-then-not-both : goal.returns-then-not-both
-returns-then-not-both c =
-    rebuild_unfit _ _ _ _ _ _ _ (c.stripe_rules-a.ensures ∙ ap (stripe_rules c.args.d) (c.both.ensures ∙ ap (λ (b : Bool). b && leb c.args.lost c.args.k) c.in_range.ensures)) c.is_good.ensures _ c.length-long.ensures (ap not c.if-not-is_good.false) _ c.both-2.ensures (ap not c.if-not-both.true)
+pub returns-then-parts-count : goal.returns-then-parts-count
+returns-then-parts-count c =
+    rebuild_unfit _ _ _ _ _ _ (c.length-long.ensures ∙ ap length_of c.in_ok-s.ensures.numbers) (c.in_ok-s.ensures.answer ∙ ap (stripe_rules c.args.d) (both c.args.k c.args.lost _ _ c.in_range.ensures (elim c.if-in_range.branch [ then-in_range w ↦ inl (w.if-in_range.true, w.shaped-is) | else-in_range w ↦ inr (w.if-in_range.false, w.shaped-is) ])))
+    (λ whole room. elim c.then-parts-count.branch [
+      | then-parts-count-via-then-parts-count w ↦ w.if-parts-count.true whole
+      | then-parts-count-via-else-parts-count+then-out-long w ↦ w.if-out-long.true room
+    ])
 
 pub rebuild-requires : goal.rebuild-requires
 rebuild-requires c =
-    let p = passed _ _ _ _ (c.stripe_rules-a.ensures ∙ ap (stripe_rules c.args.d) (c.both.ensures ∙ ap (λ (b : Bool). b && leb c.args.lost c.args.k) c.in_range.ensures)) c.is_good.ensures (ap not c.if-not-is_good.false) in (
-      (lost_facts c.args.k c.args.lost p.1.1).2,
-      sym (parts_told _ _ c.length-long.result _ _ c.both-2.ensures (ap not c.if-not-both.false)),
-    )
+    let p = passed _ _ (c.in_ok-s.ensures.answer ∙ ap (stripe_rules c.args.d) (both c.args.k c.args.lost _ _ c.in_range.ensures (elim c.if-in_range.branch [ then-in_range w ↦ inl (w.if-in_range.true, w.shaped-is) | else-in_range w ↦ inr (w.if-in_range.false, w.shaped-is) ]))) in
+    ((lost_facts c.args.k c.args.lost p.1.1).2, sym (parts_long _ c.if-parts-count.false c.if-out-long.false))
 
 pub returns : goal.returns
 returns c =
-    rebuild_good _ _ _ _ _ _ _ (c.stripe_rules-a.ensures ∙ ap (stripe_rules c.args.d) (c.both.ensures ∙ ap (λ (b : Bool). b && leb c.args.lost c.args.k) c.in_range.ensures)) c.is_good.ensures _ c.length-long.ensures (ap not c.if-not-is_good.false) _ c.both-2.ensures (ap not c.if-not-both.false) _ c.rebuild.ensures
+    rebuild_good _ _ _ _ _ _ (c.length-long.ensures ∙ ap length_of c.in_ok-s.ensures.numbers) (c.in_ok-s.ensures.answer ∙ ap (stripe_rules c.args.d) (both c.args.k c.args.lost _ _ c.in_range.ensures (elim c.if-in_range.branch [ then-in_range w ↦ inl (w.if-in_range.true, w.shaped-is) | else-in_range w ↦ inr (w.if-in_range.false, w.shaped-is) ]))) c.if-parts-count.false c.if-out-long.false _ c.rebuild.ensures

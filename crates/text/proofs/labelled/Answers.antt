@@ -1,11 +1,11 @@
 -- `text::labelled`: one text after another.
 use native.Mathlib.Omega.{arith}
-use Rattle.writing.proofs.Writing.{written_then}
+use Rattle.writing.proofs.Writing.{printed_then}
 use borrow.Author.Rules.{rules}
 use Rattle.text.proofs.labelled.Goals as goal
 
 pub decimal_then-requires : goal.decimal_then-requires
-decimal_then-requires c = omega (arith, c.put_word-end.ensures.end)
+decimal_then-requires c = omega (arith, c.word.ensures.written.end)
 
 pub returns : goal.returns
-returns c = search (written_then, rules)
+returns c = search (printed_then, rules)

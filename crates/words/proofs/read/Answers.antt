@@ -7,25 +7,20 @@ use Rattle.words.specs.BigEndian.{number}
 use Rattle.words.proofs.BigEndian.{read_next, read_end, grown, room}
 use Rattle.words.proofs.read.Goals as goal
 
-pub loop-i-init : goal.loop-i-init
+pub loop-b-init : goal.loop-b-init
 unfolding number
-loop-i-init c = (zero-le, lit< tt, refl)
+loop-b-init c = (zero-le, lit< tt, refl)
 
 pub overflow_mul-n : goal.overflow_mul-n
-overflow_mul-n c = omega (arith, room _ _ c.loop-i.invariant.1 (omega arith))
+overflow_mul-n c = omega (arith, room _ _ c.loop-b.invariant.1 (omega arith))
 
-pub overflow_add-n : goal.overflow_add-n
-overflow_add-n c =
-    omega
-    (arith, c.type_inv.s c.loop-i.i, room _ _ c.loop-i.invariant.1 (omega arith))
-
-pub loop-i-preserved : goal.loop-i-preserved
-loop-i-preserved c =
-    let l = c.loop-i in (
+pub loop-b-preserved : goal.loop-b-preserved
+loop-b-preserved c =
+    let l = c.loop-b in (
       omega arith,
-      grown l.n _ l.i l.invariant.1 (c.type_inv.s l.i).fits,
-      read_next _ l.n l.i _ (omega arith) l.invariant.2,
+      grown l.n _ l.b-index l.invariant.1 (c.type_inv.s l.b-index).fits,
+      read_next _ l.n l.b-index _ (omega arith) l.invariant.2,
     )
 
 pub returns : goal.returns
-returns c = read_end _ _ c.loop-i.i _ c.loop-i-test.false c.loop-i.invariant.2
+returns c = read_end _ _ c.loop-b.b-index _ c.loop-b-test.false c.loop-b.invariant.2

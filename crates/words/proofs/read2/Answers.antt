@@ -1,9 +1,7 @@
--- `words::read2`: the laws of reading at a place, at 2 bytes.
-use Rattle.words.proofs.BigEndian.{read_at, read_at_lt}
+-- `words::read2`: what std reads from so many bytes is the number at the place.
+use mathlib.Core.Path.{sym, ◌∙◌}
+use Rattle.words.proofs.BigEndian.{two_there}
 use Rattle.words.proofs.read2.Goals as goal
 
-pub overflow_cast-result : goal.overflow_cast-result
-overflow_cast-result c = record { fits = read_at_lt _ 2 _ _ c.requires (λ i. (c.type_inv.s i).fits) c.read.ensures }
-
 pub returns : goal.returns
-returns c = read_at _ 2 _ _ c.read.ensures
+returns c = c.from_be_bytes.ensures ∙ sym (two_there _ _ c.requires)

@@ -1,11 +1,9 @@
 -- `words::write`: the bytes still to be written, before those that stand, are the bytes of the whole number.
-use mathlib.Core.Path.{◌≡◌, refl}
-use mathlib.Core.List.{List, ◌++◌, append-nil}
+use mathlib.Core.Path.{◌≡◌}
+use mathlib.Core.List.{List, ◌++◌}
 use Prim.Native.Nat.{ℕ, zero, suc, ◌≤◌}
-use native.Mathlib.Nat.{le_refl}
 use native.Mathlib.Omega.{arith}
 use lib.ListN.{drop, length-set}
-use lib.Seq.{drop-length}
 use Rattle.words.specs.BigEndian.{bytes}
 use Rattle.words.proofs.BigEndian.{write_next}
 use Rattle.words.proofs.write.Goals as goal
@@ -14,9 +12,6 @@ written : (d whole : List ℕ) (i n : ℕ) → i ≤ 0 → bytes i n ++ drop i d
 unfolding bytes
 written d whole zero n h e = e
 written d whole (suc i) n h e = absurd (omega arith)
-
-pub loop-i-init : goal.loop-i-init
-loop-i-init c = (refl, le_refl _, rw drop-length (append-nil _))
 
 pub loop-i-preserved : goal.loop-i-preserved
 loop-i-preserved c =

@@ -8,6 +8,3 @@ use Rattle.words.proofs.write.Given as goal
 
 abbrev pub invariant-loop-i : goal.invariant-loop-i
 invariant-loop-i l = (length l.d ≡ length l.fn.d) × (l.i ≤ length l.fn.d) × (bytes l.i l.rest ++ drop l.i l.d ≡ bytes (length l.fn.d) l.n)
-
-abbrev pub decreases-loop-i : goal.decreases-loop-i
-decreases-loop-i l = l.i

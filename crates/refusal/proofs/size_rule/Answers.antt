@@ -1,6 +1,0 @@
--- `refusal::size_rule`: the bytes moved decide.
-use Rattle.refusal.proofs.Rules.{size_told}
-use Rattle.refusal.proofs.size_rule.Goals as goal
-
-pub returns : goal.returns
-returns c = size_told _ _ _ _ c.refused_if.ensures c.moved.ensures
