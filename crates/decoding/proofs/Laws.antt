@@ -3,7 +3,7 @@
 use Rattle.std.specs.Prelude.{Option, Some, None, Ok, Err}
 use mathlib.Core.Path.{◌≡◌, refl, sym, ◌∙◌}
 use mathlib.Core.Bool.{Bool, true, false, not, ◌&&◌, cond}
-use mathlib.Core.List.{List}
+use mathlib.Core.List.{List, [], ◌∷◌}
 use Prim.Native.Nat.{ℕ, ◌+◌, ◌/◌, ◌^◌, ◌≤◌, ◌<◌}
 use native.Mathlib.Nat.{lt_of_lt_of_le, pow-le-pow_right}
 use native.Mathlib.Omega.{arith}
@@ -27,7 +27,7 @@ use Rattle.command.specs.Sixteen.{sixteen}
 use Rattle.decoding.specs.declared.Form.{Form}
 use Rattle.decoding.specs.declared.Form.TheVariants.{Ten, Twelve, Sixteen, ThirtyTwo}
 use Rattle.decoding.specs.declared.Layout.{Layout}
-use Rattle.decoding.specs.Commands.{check_bits, byte_zero, service_action, find, recognise, layout_of, is_long, tags, fields, decode_as, decode, Named}
+use Rattle.decoding.specs.Commands.{check_bits, Row, byte_zero, service_action, find, recognise, layout_of, is_long, tags, fields, decode_as, decode, Named}
 
 -- ---- the sizes of the four forms
 
@@ -50,6 +50,17 @@ pub laid_within : (f : Form) {l : Layout} {n : ℕ} → l ≡ layout_of f → n 
 laid_within f e h = rw (e, h) (within f)
 
 -- ---- the rows of the table
+
+-- A, and v is not the value of any row
+abbrev pub Beside : Type 0 → ℕ → List Row → Type 0
+Beside A v [] = A
+Beside A v (r ∷ rs) = Beside (A × (v ≡ r.value → ⊥)) v rs
+
+pub none : (A : Type 0) (v : ℕ) (rs : List Row) → Beside A v rs → A × (find v rs ≡ Err reasons.OperationInvalid)
+none A v [] a = (a, refl)
+none A v (r ∷ rs) b =
+    let rest = none (A × (v ≡ r.value → ⊥)) v rs b in
+    (rest.0.0, rw (ne_eqb v r.value rest.0.1) rest.1)
 
 pub recognise_empty : (c : List ℕ) → length c ≡ 0 → recognise c ≡ Err reasons.CommandLengthWrong
 unfolding recognise

@@ -1,10 +1,10 @@
 -- The laws of a record: its frame as a test and as facts, and which refusal comes first.
 -- Assumes nothing.
-use mathlib.Core.Path.{◌≡◌, sym, ap, ◌∙◌}
+use mathlib.Core.Path.{◌≡◌, refl, sym, ap, ◌∙◌}
 use mathlib.Core.Bool.{Bool, true, false, not}
 use mathlib.Core.List.{List}
-use Prim.Native.Nat.{ℕ, ◌+◌, ◌-◌}
-use borrow.Author.Tests.{ltb-false, eqb-true, not-false}
+use Prim.Native.Nat.{ℕ, ◌+◌, ◌-◌, ◌≤◌}
+use borrow.Author.Tests.{le-ltb, eq-eqb, ltb-false, eqb-true, not-false}
 use lib.Dec.{eqb, ltb}
 use lib.ListN.{length, get_or, length-drop}
 use Rattle.words.specs.BigEndian.{number_at}
@@ -31,6 +31,26 @@ frame_facts input e =
       whole = eqb-true _ _ (not-false _ whole.0);
       version = eqb-true _ _ (not-false _ whole.1);
     }
+
+-- where all else is in order, the version alone is left to ask
+pub frame_version : (input : List ℕ) → 4 ≤ length input → number_at 0 4 input ≤ 65532 → 15 ≤ number_at 0 4 input → length input ≡ 4 + number_at 0 4 input
+    → not (eqb (get_or input 4 0) 1) ≡ frame_bad input
+unfolding frame_bad
+frame_version input start most least whole =
+    rw (
+      le-ltb (length input) 4 start,
+      le-ltb 65532 (number_at 0 4 input) most,
+      le-ltb (number_at 0 4 input) 15 least,
+      eq-eqb (length input) (4 + number_at 0 4 input) whole,
+    )
+    refl
+
+pub frame_bad_lem : (input : List ℕ) → (Framed input → ⊥) → true ≡ frame_bad input
+frame_bad_lem input n = by (frame_bad input) refl
+  where
+    by : (b : Bool) → frame_bad input ≡ b → true ≡ b
+    by true e = refl
+    by false e = absurd (n (frame_facts input e))
 
 -- the rule that asks for the frame did not refuse
 pub framed : (input : List ℕ) {b : Bool} {a : Answer} → b ≡ frame_bad input → a ≡ refused_if b reasons.ListingRecordBad → a ≡ good → Framed input

@@ -96,12 +96,13 @@ pub counts_none : {c : Counts} → (c.lines ≡ 0) × ((c.faults ≡ 0) × (c.sk
 counts_none z = same_counts _ _ z.0 z.1.0 z.1.1
 
 -- what is left of the same lines, printed from the same place and counted from the same counts: where the pen stands, the bytes of
--- its buffer, and the counts
+-- its buffer, which buffer that is, and the counts
 pub same_lines : {ls : List Line} {p q r : Pen} {c d e : Counts} → PrintedLines ls p c q d → PrintedLines ls p c r e
-    → (q.at ≡ r.at) × (q.out.now ≡ r.out.now) × (d ≡ e)
+    → (q.at ≡ r.at) × (q.out.now ≡ r.out.now) × (q.out.ghost_name ≡ r.out.ghost_name) × (d ≡ e)
 same_lines f g = (
   f.text.written.end ∙ sym g.text.written.end,
   f.text.written.now ∙ sym g.text.written.now,
+  f.text.same_buffer ∙ sym g.text.same_buffer,
   same_counts _ _ (f.lines ∙ sym g.lines) (f.faults ∙ sym g.faults) (f.skipped ∙ sym g.skipped),
 )
 
