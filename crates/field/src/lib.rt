@@ -9,7 +9,8 @@ pub fn field_of(s: &[u8], at: usize) -> &[u8; 8]
     requires { at + 8 ≤ length s.now }
     ensures { result.now ≡ field_of at s.now }
 {
-    s[at..].first_chunk().unwrap()
+    let (fields, _) = s[at..].as_chunks();
+    &fields[0]
 }
 
 pub fn stored_guard(field: &[u8; 8]) -> u16

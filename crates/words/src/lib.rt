@@ -66,7 +66,9 @@ pub fn copy(d: &mut [u8], s: &[u8])
     requires { length s.now ≡ length d.old }
     ensures { d.new ≡ s.now }
 {
-    d.copy_from_slice(s);
+    for (i, &b) in s.iter().enumerate() {
+        d[i] = b;
+    }
 }
 
 // Makes `d` the exclusive or of itself and `s`, which is as long.
