@@ -121,11 +121,12 @@ pub fn step(w: &Rows, d: Segment, s: &[u8], place: u64, blocks: u64, found: &mut
     ensures named { Named found.new }
 {
     let count = covered(d.numbers, place, blocks);
-    *found = Found {
+    let mut so_far = Found {
         faults: 0,
         first: None,
     };
     if d.numbers.kind == 0 {
+        *found = so_far;
         return count;
     }
     let size = d.stored();
@@ -138,8 +139,9 @@ pub fn step(w: &Rows, d: Segment, s: &[u8], place: u64, blocks: u64, found: &mut
         let at = place + judged;
         let i = at as usize * size;
         let faulty = asked.faulty_block(w, at, &s[i..i + size]);
-        *found = found.with_block(faulty, d.numbers.first + at);
+        so_far = so_far.with_block(faulty, d.numbers.first + at);
     }
+    *found = so_far;
     count
 }
 

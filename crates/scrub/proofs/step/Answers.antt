@@ -76,13 +76,13 @@ faulty_block-faulty-requires c = ((here_is c.args.d.numbers c.args.s.now c.args.
 pub overflow_add-d : goal.overflow_add-d
 overflow_add-d c = omega (arith, (here_is c.args.d.numbers c.args.s.now c.args.place c.args.blocks c.loop-judged.judged c.args.d.is c.requires.0 c.requires.1 c.covered-count.ensures c.stored-size.ensures c.loop-judged-test.true).inside, (here_is c.args.d.numbers c.args.s.now c.args.place c.args.blocks c.loop-judged.judged c.args.d.is c.requires.0 c.requires.1 c.covered-count.ensures c.stored-size.ensures c.loop-judged-test.true).end)
 
-pub with_block-requires : goal.with_block-requires
-with_block-requires c =
+pub with_block-so_far-requires : goal.with_block-so_far-requires
+with_block-so_far-requires c =
     omega (arith, c.loop-judged.invariant.most, c.loop-judged-test.true, (here_is c.args.d.numbers c.args.s.now c.args.place c.args.blocks c.loop-judged.judged c.args.d.is c.requires.0 c.requires.1 c.covered-count.ensures c.stored-size.ensures c.loop-judged-test.true).inside, (here_is c.args.d.numbers c.args.s.now c.args.place c.args.blocks c.loop-judged.judged c.args.d.is c.requires.0 c.requires.1 c.covered-count.ensures c.stored-size.ensures c.loop-judged-test.true).most)
 
 pub loop-judged-preserved : goal.loop-judged-preserved
 loop-judged-preserved c =
-    rw c.with_block.ensures
+    rw c.with_block-so_far.ensures
     (turn c.loop-judged.invariant c.loop-judged-test.true _
     (looked _ _ _ c.args.d.is c.if-d-eq0.false c.stored-size.ensures (listed _ c.sixteen-read.ensures c.rules.ensures) c.faulty_block-faulty.ensures))
 
