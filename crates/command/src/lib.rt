@@ -21,47 +21,40 @@ pub struct Tags {
     pub mask: u16,
 }
 
-// What a command asks. A 32-byte command has tags, and no other.
+// What a command asks. A 32-byte command, which is `long`, brings tags; any other has 0 there.
 // Kept: the code and the byte-check bits are numbers, as the document prints them: which are refused is asked later, in its order.
+// Kept: `long` stands beside the tags, so that a command that is short and has tags can be written too: the rules answer on it.
 #[derive(Clone, Copy)]
 pub struct Command {
     pub operation: Operation,
+    pub long: bool,
     pub code: u8,
     pub check: u8,
     pub address: u64,
     pub length: u64,
-    pub tags: Option<Tags>,
+    pub tags: Tags,
 }
 
 impl Command {
-    // The first reference tag expected, 0 where the command has none.
+    // The first reference tag expected.
     pub fn tag(self) -> u32
         ensures { result ≡ tag_of self }
     {
-        match self.tags {
-            Some(t) => t.reference,
-            None => 0,
-        }
+        self.tags.reference
     }
 
-    // The application tag expected, 0 where the command has none.
+    // The application tag expected.
     pub fn application(self) -> u16
         ensures { result ≡ application_of self }
     {
-        match self.tags {
-            Some(t) => t.application,
-            None => 0,
-        }
+        self.tags.application
     }
 
-    // The application tag's mask, 0 where the command has none.
+    // The application tag's mask.
     pub fn mask(self) -> u16
         ensures { result ≡ mask_of self }
     {
-        match self.tags {
-            Some(t) => t.mask,
-            None => 0,
-        }
+        self.tags.mask
     }
 }
 
@@ -78,10 +71,15 @@ pub fn sixteen(o: Operation, address: u64, length: u64) -> Command
 {
     Command {
         operation: o,
+        long: false,
         code: 0b001,
         check: 0,
         address,
         length,
-        tags: None,
+        tags: Tags {
+            reference: 0,
+            application: 0,
+            mask: 0,
+        },
     }
 }

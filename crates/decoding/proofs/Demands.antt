@@ -1,6 +1,6 @@
 -- "No other bit changes an answer."; byte-check bits, of VERIFY alone; what a 16-byte command with code 001 asks.
 -- Assumes nothing.
-use Rattle.std.specs.Prelude.{Option, None, Ok, Err}
+use Rattle.std.specs.Prelude.{Ok, Err}
 use mathlib.Core.Path.{◌≡◌, refl, sym, ap, ◌∙◌}
 use mathlib.Core.Bool.{Bool, true, false, not, ◌&&◌, cond, true≢false}
 use mathlib.Core.List.{List}
@@ -13,7 +13,6 @@ use Rattle.words.specs.BigEndian.{number_at, number}
 use Rattle.answer.specs.declared.Reason.TheVariants as reasons
 use Rattle.command.specs.declared.Operation.{Operation}
 use Rattle.command.specs.declared.Operation.TheVariants.{Read, Write, Verify}
-use Rattle.command.specs.declared.Tags.{Tags}
 use Rattle.command.specs.declared.Command.{Command}
 use Rattle.command.specs.Sixteen.{sixteen}
 use Rattle.decoding.specs.declared.Form.{Form}
@@ -27,7 +26,7 @@ unfolding number_at
 same_number at n c c' e = ap number e
 
 -- what only the 32-byte form has
-same_long : (b : Bool) (x y : Option Tags) → (b ≡ true → x ≡ y) → cond b x None ≡ cond b y None
+same_long : (b : Bool) (x y : ℕ) → (b ≡ true → x ≡ y) → cond b x 0 ≡ cond b y 0
 same_long true x y e = e refl
 same_long false x y e = refl
 
@@ -38,8 +37,11 @@ same_seven false x y e = refl
 module _ (o : Operation) (f : Form) (c c' : List ℕ) (s : SameColumns o f c c') where
   same_tags : tags f c ≡ tags f c'
   same_tags =
-      same_long (is_long f) _ _
-      (λ l. rw (same_number 20 4 c c' (s.tag l), same_number 24 2 c c' (s.application l), same_number 26 2 c c' (s.mask l)) refl)
+      rw (
+        same_long (is_long f) (number_at 20 4 c) (number_at 20 4 c') (λ l. same_number 20 4 c c' (s.tag l)),
+        same_long (is_long f) (number_at 24 2 c) (number_at 24 2 c') (λ l. same_number 24 2 c c' (s.application l)),
+        same_long (is_long f) (number_at 26 2 c) (number_at 26 2 c') (λ l. same_number 26 2 c c' (s.mask l)),
+      ) refl
 
   same_fields : fields o f c ≡ fields o f c'
   unfolding fields

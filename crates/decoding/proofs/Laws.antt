@@ -1,6 +1,6 @@
 -- The laws of commands: what each form has room for, once for all four, and what a decoded command is within.
 -- Assumes nothing.
-use Rattle.std.specs.Prelude.{Option, Some, None, Ok, Err}
+use Rattle.std.specs.Prelude.{Ok, Err}
 use mathlib.Core.Path.{◌≡◌, refl, sym, ◌∙◌}
 use mathlib.Core.Bool.{Bool, true, false, not, ◌&&◌, cond}
 use mathlib.Core.List.{List, [], ◌∷◌}
@@ -22,7 +22,7 @@ use Rattle.command.specs.declared.Operation.{Operation}
 use Rattle.command.specs.declared.Operation.TheVariants.{Read, Write, Verify}
 use Rattle.command.specs.declared.Tags.{Tags}
 use Rattle.command.specs.declared.Command.{Command}
-use Rattle.command.specs.Tags.{reference_in, application_in, mask_in, tag_of, application_of, mask_of}
+use Rattle.command.specs.Tags.{tag_of, application_of, mask_of}
 use Rattle.command.specs.Sixteen.{sixteen}
 use Rattle.decoding.specs.declared.Form.{Form}
 use Rattle.decoding.specs.declared.Form.TheVariants.{Ten, Twelve, Sixteen, ThirtyTwo}
@@ -80,12 +80,23 @@ module _ (c : List ℕ) (some : length c ≡ 0 → ⊥) where
   recognise_action e h = rw (ne_eqb (length c) 0 some, eq-eqb (get_or c 0 0) 0x7F e, le-ltb (length c) 10 h)
 
 -- ---- the fields
-pub asked : (o : Operation) (f : Form) (c : List ℕ) {l : Layout} {k a n : ℕ} {t : Option Tags} → l ≡ layout_of f
+
+-- the tags of the longest form, and of another
+module _ (f : Form) (c : List ℕ) where
+  pub tags_long : {t a m : ℕ} → is_long f ≡ true → t ≡ number_at 20 4 c → a ≡ number_at 24 2 c → m ≡ number_at 26 2 c
+      → ◌≡◌ {A = Tags} (record { reference = t; application = a; mask = m }) (tags f c)
+  tags_long l et ea em = rw (l, et, ea, em)
+
+  pub tags_other : is_long f ≡ false → ◌≡◌ {A = Tags} (record { reference = 0; application = 0; mask = 0 }) (tags f c)
+  tags_other l = rw l
+
+pub asked : (o : Operation) (f : Form) (c : List ℕ) {l : Layout} {long : Bool} {k a n : ℕ} {t : Tags} → l ≡ layout_of f → long ≡ is_long f
     → k ≡ check_bits o (get_or c l.protect 0)
     → a ≡ number_at l.address l.addressed c → n ≡ number_at l.length l.lengthened c
     → t ≡ tags f c
     → record {
       operation = o;
+      long = long;
       code = get_or c l.protect 0 / 32;
       check = k;
       address = a;
@@ -93,7 +104,7 @@ pub asked : (o : Operation) (f : Form) (c : List ℕ) {l : Layout} {k a n : ℕ}
       tags = t;
     } ≡ fields o f c
 unfolding fields
-asked o f c el ek ea en et = rw (ek, ea, en, et, el)
+asked o f c el es ek ea en et = rw (ek, ea, en, et, el, es)
 
 -- ---- the refusals
 module _ (o : Operation) (f : Form) (c : List ℕ) where
@@ -135,9 +146,9 @@ number_below at w most c h p =
     lt_of_lt_of_le (number_lt (take w (drop at c)) (part_bytes at w c p))
     (pow-le-pow_right (lit< tt) {i = length (take w (drop at c))} {j = most} (simp length-take (omega arith)))
 
-tag_below : (part : Option Tags → ℕ) (b : Bool) (t : Tags) (n : ℕ) → part (Some t) < n → part None < n → part (cond b (Some t) None) < n
-tag_below part true t n h z = h
-tag_below part false t n h z = z
+tag_below : (b : Bool) (x n : ℕ) → x < n → cond b x 0 < n
+tag_below true x n h = h
+tag_below false x n h = omega arith
 
 check_below : (o : Operation) (p : ℕ) → check_bits o p < 4
 check_below Read p = lit< tt
@@ -162,9 +173,9 @@ fields_bounded o f c p =
       check = check_below o _;
       address = number_below _ _ 8 c (within f).addressed p;
       length = number_below _ _ 4 c (within f).lengthened p;
-      tag = tag_below reference_in (is_long f) _ _ (number_below 20 4 4 c (lit≤ tt) p) (lit< tt);
-      application = tag_below application_in (is_long f) _ _ (number_below 24 2 2 c (lit≤ tt) p) (lit< tt);
-      mask = tag_below mask_in (is_long f) _ _ (number_below 26 2 2 c (lit≤ tt) p) (lit< tt);
+      tag = tag_below (is_long f) _ _ (number_below 20 4 4 c (lit≤ tt) p);
+      application = tag_below (is_long f) _ _ (number_below 24 2 2 c (lit≤ tt) p);
+      mask = tag_below (is_long f) _ _ (number_below 26 2 2 c (lit≤ tt) p);
     }
 
 bounded_by : (c : List ℕ) (k : Command) (n : Named) → recognise c ≡ n → decode c ≡ Ok k → Bytes c → Bounded k

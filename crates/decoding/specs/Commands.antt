@@ -1,6 +1,6 @@
 -- "Commands": from a command's bytes to what it asks, or the refusal.
 use Rattle.answer.specs.declared.Reason.{Reason}
-use Rattle.std.specs.Prelude.{ℕ, ◌/◌, ◌%◌, Bool, true, false, not, ◌&&◌, cond, List, [], ◌∷◌, eqb, ltb, length, get_or, Option, Some, None, Result, Ok, Err}
+use Rattle.std.specs.Prelude.{ℕ, ◌/◌, ◌%◌, Bool, true, false, not, ◌&&◌, cond, List, [], ◌∷◌, eqb, ltb, length, get_or, Result, Ok, Err}
 use Rattle.words.specs.BigEndian.{number_at}
 use Rattle.answer.specs.declared.Reason.TheVariants as reasons
 use Rattle.command.specs.declared.Operation.{Operation}
@@ -80,10 +80,15 @@ check_bits Read p = 0
 check_bits Write p = 0
 check_bits Verify p = p / 2 % 4
 
--- "expected first reference tag in 20-23, expected application tag in 24-25, application mask in 26-27" of the 32-byte form
-abbrev pub tags : Form → List ℕ → Option Tags
+-- "expected first reference tag in 20-23, expected application tag in 24-25, application mask in 26-27" of the 32-byte form; each 0 in
+-- the others
+abbrev pub tags : Form → List ℕ → Tags
 tags f c =
-    cond (is_long f) (Some (record { reference = number_at 20 4 c; application = number_at 24 2 c; mask = number_at 26 2 c })) None
+    record {
+      reference = cond (is_long f) (number_at 20 4 c) 0;
+      application = cond (is_long f) (number_at 24 2 c) 0;
+      mask = cond (is_long f) (number_at 26 2 c) 0;
+    }
 
 -- protect code in bits 7-5 of the protect byte
 unfoldable pub fields : Operation → Form → List ℕ → Command
@@ -91,6 +96,7 @@ fields o f c =
     let l = layout_of f in
     record {
       operation = o;
+      long = is_long f;
       code = get_or c l.protect 0 / 32;
       check = check_bits o (get_or c l.protect 0);
       address = number_at l.address l.addressed c;

@@ -126,19 +126,23 @@ fn check_bits(o: Operation, protects: u8) -> u8
     }
 }
 
-// The tags and the mask, which the longest form alone has.
-fn tags(f: Form, c: &[u8]) -> Option<Tags>
+// The tags and the mask, which the longest form alone brings; 0 in the others.
+fn tags(f: Form, c: &[u8]) -> Tags
     requires { length c.now ≡ (layout_of f).bytes }
     ensures { result ≡ tags f c.now }
 {
     if is_long(f) {
-        Some(Tags {
+        Tags {
             reference: words::read4(c, 20),
             application: words::read2(c, 24),
             mask: words::read2(c, 26),
-        })
+        }
     } else {
-        None
+        Tags {
+            reference: 0,
+            application: 0,
+            mask: 0,
+        }
     }
 }
 
@@ -155,6 +159,7 @@ fn fields(o: Operation, f: Form, c: &[u8]) -> Command
     let length = words::read_at(c, l.length, l.lengthened);
     Command {
         operation: o,
+        long: is_long(f),
         code: protects / 32,
         check,
         address,

@@ -27,6 +27,7 @@ abbrev pub asked : Operation → ℕ → Command → Command
 asked o bits c =
     record {
       operation = o;
+      long = c.long;
       code = c.code;
       check = bits;
       address = c.address;

@@ -14,10 +14,7 @@ fn inserted_application(d: Description, c: Command) -> u16
     if d.ato == 0 {
         return 0;
     }
-    match c.tags {
-        Some(t) => t.application,
-        None => 0xFFFF,
-    }
+    if c.long { c.tags.application } else { 0xFFFF }
 }
 
 fn inserted_reference(d: Segment, c: Command) -> u32
@@ -28,8 +25,8 @@ fn inserted_reference(d: Segment, c: Command) -> u32
         return (c.address % 0x1_0000_0000) as u32;
     }
     if kind == 2 {
-        if let Some(t) = c.tags {
-            return t.reference;
+        if c.long {
+            return c.tags.reference;
         }
         return (c.address % 0x1_0000_0000 * d.intervals() as u64 % 0x1_0000_0000) as u32;
     }

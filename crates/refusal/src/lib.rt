@@ -18,7 +18,7 @@ pub struct Lengths {
 fn type_rules(d: Description, c: Command) -> Answer
     ensures { result ≡ type_rules d c }
 {
-    if c.tags.is_some() {
+    if c.long {
         return answer::refused_if(d.kind != 2, Reason::OperationInvalid);
     }
     if c.code == 0 {

@@ -46,14 +46,14 @@ fn columns_of(code: u8) -> Columns
 fn application_known(d: Description, c: Command) -> bool
     ensures { result ≡ application_known d c }
 {
-    c.tags.is_some() && d.ato == 1
+    c.long && d.ato == 1
 }
 
 #[tactic(auto, using(std::proofs::lemmas::Bool::Decides::nat_tests), unfolding(crate::specs::Rules::reference_known))]
 fn reference_known(d: Description, c: Command) -> bool
     ensures { result ≡ reference_known d c }
 {
-    d.kind == 1 || (d.kind == 2 && c.tags.is_some())
+    d.kind == 1 || (d.kind == 2 && c.long)
 }
 
 fn first_tag(d: Description, c: Command) -> u32

@@ -14,4 +14,4 @@ read_at-length-requires c = omega (arith, laid_within c.args.f c.layout_of-l.ens
 
 pub returns : goal.returns
 returns c =
-    asked _ _ _ c.layout_of-l.ensures c.check_bits-check.ensures c.read_at-address.ensures c.read_at-length.ensures c.tags.ensures
+    asked _ _ _ c.layout_of-l.ensures c.is_long.ensures c.check_bits-check.ensures c.read_at-address.ensures c.read_at-length.ensures c.tags.ensures
