@@ -80,16 +80,6 @@ module _ (c : List ℕ) (some : length c ≡ 0 → ⊥) where
   recognise_action e h = rw (ne_eqb (length c) 0 some, eq-eqb (get_or c 0 0) 0x7F e, le-ltb (length c) 10 h)
 
 -- ---- the fields
-
--- the tags of the longest form, and of another
-module _ (f : Form) (c : List ℕ) where
-  pub tags_long : {t a m : ℕ} → is_long f ≡ true → t ≡ number_at 20 4 c → a ≡ number_at 24 2 c → m ≡ number_at 26 2 c
-      → ◌≡◌ {A = Tags} (record { reference = t; application = a; mask = m }) (tags f c)
-  tags_long l et ea em = rw (l, et, ea, em)
-
-  pub tags_other : is_long f ≡ false → ◌≡◌ {A = Tags} (record { reference = 0; application = 0; mask = 0 }) (tags f c)
-  tags_other l = rw l
-
 pub asked : (o : Operation) (f : Form) (c : List ℕ) {l : Layout} {long : Bool} {k a n : ℕ} {t : Tags} → l ≡ layout_of f → long ≡ is_long f
     → k ≡ check_bits o (get_or c l.protect 0)
     → a ≡ number_at l.address l.addressed c → n ≡ number_at l.length l.lengthened c
