@@ -2,6 +2,7 @@
 #![tactic(auto)]
 
 ghost use Rattle.std.specs.Prelude.{◌≡◌, ◌+◌, ◌≤◌, ◌<◌, ◌^◌};
+ghost use Rattle.writing.specs.Laid.{Written};
 ghost use Rattle.writing.specs.Printed.{Printed};
 ghost use Rattle.digits.specs.Digits.{digit, hexadecimal, decimal_in, decimal};
 
@@ -18,33 +19,41 @@ fn digit(n: u64) -> u8
     0x57 + n as u8
 }
 
+// The low `k` hexadecimal digits of `n`, and the place behind them.
+// Kept: it calls itself, and so does `decimal_in`, since the digit that is worked out first is printed last. Both have the place by value:
+// see `writing::put`.
+fn hexadecimal_in(out: &mut [u8], at: usize, k: usize, n: u64) -> usize
+    requires { at + k ≤ 2 ^ 32 }
+    ensures { Written (hexadecimal k n) at out.old result out.new }
+{
+    if k == 0 {
+        return at;
+    }
+    let end = hexadecimal_in(out, at, k - 1, n / 16);
+    writing::put(out, end, digit(n % 16))
+}
+
 // The low `k` hexadecimal digits of `n`.
-// Kept: it calls itself, and so does `decimal_in`, since the digit that is worked out first is printed last.
 pub fn hexadecimal(pen: &mut Pen, k: usize, n: u64)
     requires { pen.old.at + k ≤ 2 ^ 32 }
     ensures { Printed (hexadecimal k n) pen.old pen.new }
 {
-    if k == 0 {
-        return;
-    }
-    hexadecimal(pen, k - 1, n / 16);
-    pen.put(digit(n % 16));
+    pen.at = hexadecimal_in(pen.out, pen.at, k, n);
 }
 
-// The digits of `n`, of which there are at most `k`.
-fn decimal_in(pen: &mut Pen, k: usize, n: u64)
-    requires { pen.old.at + k ≤ 2 ^ 32 }
-    ensures { Printed (decimal_in k n) pen.old pen.new }
+// The digits of `n`, of which there are at most `k`, and the place behind them.
+fn decimal_in(out: &mut [u8], at: usize, k: usize, n: u64) -> usize
+    requires { at + k ≤ 2 ^ 32 }
+    ensures { Written (decimal_in k n) at out.old result out.new }
 {
     if k == 0 {
-        return;
+        return at;
     }
     if n < 10 {
-        pen.put(digit(n));
-        return;
+        return writing::put(out, at, digit(n));
     }
-    decimal_in(pen, k - 1, n / 10);
-    pen.put(digit(n % 10));
+    let end = decimal_in(out, at, k - 1, n / 10);
+    writing::put(out, end, digit(n % 10))
 }
 
 // A number, in as few digits as it needs.
@@ -52,5 +61,5 @@ pub fn decimal(pen: &mut Pen, n: u64)
     requires { pen.old.at + 20 ≤ 2 ^ 32 }
     ensures { Printed (decimal n) pen.old pen.new }
 {
-    decimal_in(pen, 20, n);
+    pen.at = decimal_in(pen.out, pen.at, 20, n);
 }

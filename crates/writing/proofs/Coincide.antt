@@ -6,6 +6,8 @@ use mathlib.Core.Path.{◌≡◌, sym, ◌∙◌}
 use Rattle.writing.proofs.Pen.new.Reads as new-of-pen-reads
 use Rattle.writing.proofs.Pen.put.Reads as put-of-pen-reads
 use Rattle.writing.proofs.Pen.word.Reads as word-of-pen-reads
+use Rattle.writing.proofs.put.Reads as put_reads
+use Rattle.writing.proofs.put_word.Reads as put-word-reads
 
 pub pen_new : (κs : _) (a : _) (x y : _) (s t : _) → new-of-pen-reads.Post κs a x s → new-of-pen-reads.Post κs a y t
     → (x.at ≡ y.at) × (x.out.now ≡ y.out.now) × (x.out.ghost_name ≡ y.out.ghost_name)
@@ -18,3 +20,9 @@ pen_put κs a x y s t p q = (p.written.end ∙ sym q.written.end, p.written.now 
 pub pen_word : (κs : _) (a : _) (x y : _) (s t : _) → word-of-pen-reads.Post κs a x s → word-of-pen-reads.Post κs a y t
     → (s.0.now.at ≡ t.0.now.at) × (s.0.now.out.now ≡ t.0.now.out.now) × (s.0.now.out.ghost_name ≡ t.0.now.out.ghost_name)
 pen_word κs a x y s t p q = (p.written.end ∙ sym q.written.end, p.written.now ∙ sym q.written.now, p.same_buffer ∙ sym q.same_buffer)
+
+pub put : (κs : _) (a : _) (x y : _) (s t : _) → put_reads.Post κs a x s → put_reads.Post κs a y t → (x ≡ y) × (s.0.now ≡ t.0.now)
+put κs a x y s t p q = (p.end ∙ sym q.end, p.now ∙ sym q.now)
+
+pub put_word : (κs : _) (a : _) (x y : _) (s t : _) → put-word-reads.Post κs a x s → put-word-reads.Post κs a y t → (x ≡ y) × (s.0.now ≡ t.0.now)
+put_word κs a x y s t p q = (p.end ∙ sym q.end, p.now ∙ sym q.now)

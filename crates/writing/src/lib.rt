@@ -2,6 +2,7 @@
 #![tactic(auto)]
 
 ghost use Rattle.std.specs.Prelude.{◌≡◌, ◌∷◌, [], ◌+◌, ◌≤◌, ◌<◌, ◌^◌, length};
+ghost use Rattle.writing.specs.Laid.{Written};
 ghost use Rattle.writing.specs.Printed.{Printed};
 
 // Kept: how far on the place may be, each function that prints asks for its own text.
@@ -27,10 +28,7 @@ impl<'a> Pen<'a> {
         requires { self.old.at < 2 ^ 32 }
         ensures { Printed (b ∷ []) self.old self.new }
     {
-        if self.at < self.out.len() {
-            self.out[self.at] = b;
-        }
-        self.at += 1;
+        self.at = put(self.out, self.at, b);
     }
 
     // The bytes of `word`.
@@ -38,8 +36,32 @@ impl<'a> Pen<'a> {
         requires { self.old.at + length word.now ≤ 2 ^ 32 }
         ensures { Printed word.now self.old self.new }
     {
-        for b in word {
-            self.put(*b);
-        }
+        self.at = put_word(self.out, self.at, word);
     }
+}
+
+// One byte, at a place that is handed over, and the place behind it.
+// Kept beside the pen: what goes through bytes has the place by value, in a register, where through the pen each byte waits for the place
+// that the one before it stored. The pen takes the place back behind a word or a number.
+pub fn put(out: &mut [u8], at: usize, b: u8) -> usize
+    requires { at < 2 ^ 32 }
+    ensures { Written (b ∷ []) at out.old result out.new }
+{
+    if at < out.len() {
+        out[at] = b;
+        return at + 1;
+    }
+    at + 1
+}
+
+// The bytes of `word`, and the place behind them.
+pub fn put_word(out: &mut [u8], at: usize, word: &[u8]) -> usize
+    requires { at + length word.now ≤ 2 ^ 32 }
+    ensures { Written word.now at out.old result out.new }
+{
+    let mut end = at;
+    for b in word {
+        end = put(out, end, *b);
+    }
+    end
 }

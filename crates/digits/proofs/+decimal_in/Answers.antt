@@ -11,7 +11,7 @@ pub returns-then-n-lt10 : goal.returns-then-n-lt10
 returns-then-n-lt10 t c = search (decimal_last, rules)
 
 pub put-requires-2 : goal.put-requires-2
-put-requires-2 t c = omega (arith, decimal_in_end _ _ c.decimal_in.ensures.written)
+put-requires-2 t c = omega (arith, decimal_in_end _ _ c.decimal_in-end.ensures)
 
 pub returns : goal.returns
 returns t c = search (decimal_next, rules)
